@@ -1,0 +1,4 @@
+pub mod Cuts
+pub mod Pieces
+pub mod Plans
+pub mod Splits

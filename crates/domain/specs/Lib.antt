@@ -1,0 +1,4 @@
+pub mod Attributes
+pub mod Calendar
+pub mod Cells
+pub mod Refusals
