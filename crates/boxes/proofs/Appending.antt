@@ -7,8 +7,7 @@ use native.Mathlib.Omega.{arith}
 use lib.Dec.{leb}
 use lib.ListN.{length, take, length-append, length-take}
 use Rattle.std.proofs.shelf.Lists.{take-all, take-append-le}
-use Rattle.std.proofs.shelf.Tests.{leb-true, leb-false, le-leb, lt-leb, cond-true, cond-false}
-use Rattle.std.proofs.shelf.Tests.{false≢true}
+use Rattle.std.proofs.shelf.Tests.{cond-false, cond-true, false≢true, le-leb, leb-false, leb-true, lt-leb}
 use Rattle.std.specs.Results.{isOk, isErr}
 use Rattle.std.specs.Vec.{listOf}
 use Rattle.std.specs.declared.option.Option.{Option}

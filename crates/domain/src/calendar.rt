@@ -1,5 +1,4 @@
 ghost use mathlib.Core.Path.{_≡_};
-ghost use Prim.Native.Nat.{_<_};
 ghost use Rattle.domain.specs.Calendar.{rankOf, monthOf};
 ghost use Rattle.std.specs.Slices.{found};
 ghost use Rattle.std.specs.declared.option.Option.the-variants.{Some};

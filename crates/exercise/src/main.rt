@@ -41,7 +41,9 @@ fn run(rt: &LibcRuntime) -> Result<(), AnyError> {
     let Some((question, rest)) = numbers.as_slice().split_first_chunk::<6>() else {
         return Err("a box has six numbers".into());
     };
-    let regions = regions_of(rt.alloc(), rest)?;
+    let Some(regions) = regions_of(rt.alloc(), rest)? else {
+        return Err("a region has six numbers".into());
+    };
     work(rt, bounds_of(question), regions.as_slice())
 }
 

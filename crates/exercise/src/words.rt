@@ -1,11 +1,12 @@
 ghost use mathlib.Core.Path.{_≡_};
-ghost use Rattle.exercise.specs.Words.{numbersOf, sixOf};
+ghost use Rattle.exercise.specs.Words.{NoBoxes, numbersOf, sixOf};
 ghost use Rattle.std.specs.Of.Vec.{vec-items};
+ghost use Rattle.std.specs.Options.{Cases as BySome};
 ghost use Rattle.std.specs.Vec.{made};
 use domain::Bounds;
 use domain::Span;
+use std::alloc::AllocError;
 use std::alloc::Global;
-use std::error::AnyError;
 
 /// The plain numbers of a box, from six numbers in the order of the attributes.
 pub fn bounds_of(six: &[u16; 6]) -> Bounds
@@ -19,9 +20,9 @@ pub fn bounds_of(six: &[u16; 6]) -> Bounds
     }
 }
 
-/// Regions, each from six numbers; refused where numbers are left over.
-pub fn regions_of(heap: Global, numbers: &[u16]) -> Result<Vec<Bounds>, AnyError>
-    ensures made { λ r. ⌜ made r (λ regions. numbersOf (vec-items regions) ≡ now (numbers .entry)) ⌝ }
+/// Regions, each from six numbers; None where numbers are left over.
+pub fn regions_of(heap: Global, numbers: &[u16]) -> Result<Option<Vec<Bounds>>, AllocError>
+    ensures made { λ r. ⌜ made r (λ o. BySome o (NoBoxes (now (numbers .entry))) (λ regions. numbersOf (vec-items regions) ≡ now (numbers .entry))) ⌝ }
 {
     let mut regions = Vec::new(heap);
     let mut left = numbers;
@@ -30,7 +31,7 @@ pub fn regions_of(heap: Global, numbers: &[u16]) -> Result<Vec<Bounds>, AnyError
         left = rest;
     }
     if !left.is_empty() {
-        return Err("a region has six numbers".into());
+        return Ok(None);
     }
-    Ok(regions)
+    Ok(Some(regions))
 }

@@ -1,12 +1,14 @@
 use mathlib.Core.Path.{_≡_, sym, ap, _∙_}
 use mathlib.Core.List.{List, [], _++_, append-assoc, append-nil}
 use Prim.Native.Nat.{ℕ}
-use lib.ListN.{take, drop}
+use native.Mathlib.Omega.{arith}
+use lib.ListN.{length, take, drop}
 use Rattle.std.proofs.shelf.Lists.{joined-more, nil-from-length, take-append-drop}
-use Rattle.std.proofs.shelf.Tests.{eqb-true}
+use Rattle.std.proofs.shelf.Tests.{eqb-false, eqb-true}
 use Rattle.std.specs.Of.Vec.{vec-items}
 use Rattle.domain.specs.declared.attributes.Bounds.{Bounds}
 use Rattle.exercise.specs.Words.{numbersOf, sixOf}
+use Rattle.exercise.proofs.Sixes.{left-over}
 use Rattle.exercise.proofs.words.regions_of.Needs as need
 
 pub loop-six-again : need.loop-six-again
@@ -19,6 +21,12 @@ loop-six-again c =
     ∙ (ap (λ ns. (numbersOf so-far ++ take 6 left) ++ ns) (c .in-Some .ensures tt .cases .1)
     ∙ (append-assoc (numbersOf so-far) (take 6 left) (drop 6 left)
     ∙ (ap (λ ns. numbersOf so-far ++ ns) (take-append-drop 6 left) ∙ c .loop-six .inv)))))
+
+pub returns-then-not-is-empty : need.returns-then-not-is-empty
+returns-then-not-is-empty c =
+    let left : List ℕ = c .loop-six .left .now in
+    let empty : length left ≡ 0 → ⊥ = eqb-false _ _ (sym (c .if-not-is-empty .ensures tt)) in
+    record { made = left-over (vec-items (c .loop-six .regions)) left (c .args .numbers .now) (c .loop-six .inv) (omega arith) (c .in-rest .ensures tt .cases) }
 
 pub returns : need.returns
 returns c =
