@@ -1,4 +1,6 @@
 //! Boxes over the three attributes of a member: making, measuring, cutting and splitting them.
+
+#![tactic(auto)]
 pub mod cell_box;
 
 pub use cell_box::CellBox;

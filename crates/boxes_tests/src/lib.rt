@@ -1,4 +1,6 @@
 //! Boxes, splits and plans, tried by running.
+
+#![tactic(auto)]
 #[cfg(test)]
 mod tests {
     use boxes::{CellBox, Pieces};

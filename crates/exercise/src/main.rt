@@ -2,6 +2,8 @@
 //!
 //! With no words it works the last worked split of the course. Otherwise six words are the question's numbers, birth,
 //! service and band, each with its lower end before its upper end, and each six words after them are a region.
+
+#![tactic(auto)]
 ghost use Rattle.std.specs.Prelude.{◌≡◌};
 ghost use Rattle.std.specs.Result.{result_ok};
 

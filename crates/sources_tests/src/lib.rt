@@ -1,4 +1,6 @@
 //! Collections, tables and value functions, tried by running.
+
+#![tactic(auto)]
 #[cfg(test)]
 mod tests {
     use boxes::CellBox;

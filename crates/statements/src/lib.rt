@@ -1,4 +1,6 @@
 //! Answers as the course writes them.
+
+#![tactic(auto)]
 pub mod text;
 
 pub use text::answer_text;

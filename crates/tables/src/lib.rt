@@ -1,4 +1,6 @@
 //! The table: a source that reads a lent list of records.
+
+#![tactic(auto)]
 pub mod cohort;
 pub mod table;
 
