@@ -1,6 +1,7 @@
 //! Boxes over the three attributes of a member: making, measuring, cutting and splitting them.
 
 #![tactic(auto)]
+
 pub mod cell_box;
 
 pub use cell_box::CellBox;

@@ -18,8 +18,8 @@ impl From<TooManyPieces> for Refusal {
 impl CellBox {
     /// Writes the remainder boxes of a question into the first places of a list and answers how many there are.
     pub fn plan<R: HasBounds>(self, regions: &[R], list: &mut [Bounds]) -> Result<usize, Refusal>
-        ensures value { result ≡ plan_answer (split_of self.bounds (map bounds regions.now)) (length list.old) }
-        ensures after { list.new ≡ plan_list (split_of self.bounds (map bounds regions.now)) list.old }
+        ensures value { result ≡ plan_answer (split_of self.bounds (map R.bounds regions.now)) (length list.old) }
+        ensures after { list.new ≡ plan_list (split_of self.bounds (map R.bounds regions.now)) list.old }
     {
         self.split(regions)?.write_to(list)
     }

@@ -26,8 +26,8 @@ impl CellBox {
     /// The split of a question by regions in place order: boxes of its cells that lie in no region. Refused where it is
     /// broken: more than 32 pieces stand after a region.
     pub fn split<R: HasBounds>(self, regions: &[R]) -> Result<Pieces, TooManyPieces>
-        ensures value { pieces_given result ≡ split_of self.bounds (map bounds regions.now) }
-        ensures remainder { IfOk result (λ ps. Remainder self.bounds (map bounds regions.now) (pieces_of ps)) }
+        ensures value { pieces_given result ≡ split_of self.bounds (map R.bounds regions.now) }
+        ensures remainder { IfOk result (λ ps. Remainder self.bounds (map R.bounds regions.now) (pieces_of ps)) }
     {
         let mut pieces = Pieces::of(self);
         for region in regions {

@@ -6,7 +6,7 @@ pub returns : goal.returns
 returns c = record {
   question = refl;
   region = refl;
-  worked-examples = record {
+  worked_examples = record {
     domain = refl;
     single = single_cell;
     corner = refl;

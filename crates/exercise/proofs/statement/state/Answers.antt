@@ -6,18 +6,18 @@ use Rattle.domain.specs.Cells.{count, missing}
 use Rattle.boxes.specs.Splits.{split_of}
 use Rattle.exercise.proofs.statement.state.Goals as goal
 
-pub returns-in-err-pieces : goal.returns-in-err-pieces
-returns-in-err-pieces c =
+pub returns-in_err-pieces : goal.returns-in_err-pieces
+returns-in_err-pieces c =
     let q : Bounds = c.args.question.bounds in
     let rs : List Bounds = c.args.regions.now in
-    let p = err_from_is_err_and c.from-residual.result c.from-residual.ensures.1 in
-    rw p.1 (record { cases = (ap (split_of q) (sym (map-id rs)) ∙ sym c.in-err-pieces.ensures.value, p.2) })
+    let p = err_from_is_err_and c.from_residual.result c.from_residual.ensures.1 in
+    rw p.1 (record { cases = (ap (split_of q) (sym (map-id rs)) ∙ sym c.in_err-pieces.ensures.value, p.2) })
 
 pub returns : goal.returns
 returns c =
     let q : Bounds = c.args.question.bounds in
     let rs : List Bounds = c.args.regions.now in
-    let known = c.in-ok-pieces.ensures in
+    let known = c.in_ok-pieces.ensures in
     record {
       cases = record {
         split = ap (split_of q) (sym (map-id rs)) ∙ sym known.value;

@@ -6,6 +6,6 @@ pub returns : goal.returns
 returns c = record {
   made =
       IfOk-weaker c.format.result _ _
-      (λ s h. h ∙ (λ i. c.in-ok-low.ensures.made i ++ (codes ".." ++ c.in-ok-high.ensures.made i)))
+      (λ s h. h ∙ (λ i. c.in_ok-low.ensures.made i ++ (codes ".." ++ c.in_ok-high.ensures.made i)))
       c.format.ensures.ok;
 }

@@ -10,13 +10,13 @@ step : (last : ℕ) (rs : List Record) (i : ℕ) (r : Bool) → i < length rs �
     → follow_on last (drop i rs) ≡ (r && follow_on (get_or rs i blank).number (drop (i + 1) rs))
 step last rs i r here is = ap (follow_on last) (drop_more rs i blank here) ∙ ap (λ t. t && follow_on (get_or rs i blank).number (drop (i + 1) rs)) (sym is)
 
-pub returns-then-not-may-follow : goal.returns-then-not-may-follow
-returns-then-not-may-follow c = record {
-  value = sym (step _ _ _ _ c.loop-record-test.true c.if-not-may-follow.ensures.value) ∙ c.loop-record.invariant;
+pub returns-then-not-may_follow : goal.returns-then-not-may_follow
+returns-then-not-may_follow c = record {
+  value = sym (step _ _ _ _ c.loop-record-test.true c.if-not-may_follow.ensures.value) ∙ c.loop-record.invariant;
 }
 
 pub loop-record-preserved : goal.loop-record-preserved
-loop-record-preserved c = sym (step _ _ _ _ c.loop-record-test.true c.if-not-may-follow.ensures.value) ∙ c.loop-record.invariant
+loop-record-preserved c = sym (step _ _ _ _ c.loop-record-test.true c.if-not-may_follow.ensures.value) ∙ c.loop-record.invariant
 
 pub returns : goal.returns
 returns c = record { value = sym (at_drop_all (follow_on c.loop-record.last) c.args.records.now c.loop-record.record-index c.loop-record-test.false) ∙ c.loop-record.invariant }

@@ -15,11 +15,11 @@ loop-record-init c = record { counted = refl; fits = zero-le; places = refl }
 pub returns-then-count-out : goal.returns-then-count-out
 returns-then-count-out c =
     let found = selection c.args.area.bounds c.args.records.now in
-    let longer = selection_longer c.args.area.bounds c.args.records.now c.loop-record.record-index blank c.loop-record-test.true (sym c.if-lies-in.ensures.value) in
+    let longer = selection_longer c.args.area.bounds c.args.records.now c.loop-record.record-index blank c.loop-record-test.true (sym c.if-lies_in.ensures.value) in
     let over : length c.args.out.now < length found = omega (arith, longer) in
     record {
       value = overfull_answer found c.args.out.now over;
-      after = c.blank-all.ensures.after ∙ (ap (λ n. replicate n blank) c.loop-record.auto.out ∙ overfull_buffer found c.args.out.now over);
+      after = c.blank_all.ensures.after ∙ (ap (λ n. replicate n blank) c.loop-record.auto.out ∙ overfull_buffer found c.args.out.now over);
       selection_laws = selection_laws;
     }
 
@@ -30,13 +30,13 @@ loop-record-preserved c =
     let i : ℕ = c.loop-record.record-index in
     let here : i < length rs = c.loop-record-test.true in
     let before : List Record = c.args.out.now in
-    elim c.if-lies-in.branch [
+    elim c.if-lies_in.branch [
       | then-lies-in+else-count-out w ↦
           let room : c.loop-record.count < length before = omega (arith, w.if-count-out.false) in
-          simp (w.out-is, w.count-is, selection_yes b rs i blank here (sym w.if-lies-in.ensures.value))
+          simp (w.out-is, w.count-is, selection_yes b rs i blank here (sym w.if-lies_in.ensures.value))
           (filled_more _ _ _ _ c.loop-record.invariant (get_or rs i blank) room)
       | else-lies-in w ↦
-          simp (w.out-is, w.count-is, selection_no b rs i blank here (sym w.if-lies-in.ensures.value)) c.loop-record.invariant
+          simp (w.out-is, w.count-is, selection_no b rs i blank here (sym w.if-lies_in.ensures.value)) c.loop-record.invariant
     ]
 
 pub returns : goal.returns

@@ -14,8 +14,8 @@ loop-record-preserved c =
     let rs : List Record = c.args.records.now in
     let i : ℕ = c.loop-record.record-index in
     let more : List ℕ = codes " " ++ decimal (get_or rs i blank).number in
-    c.in-ok-push-str.ensures.bytes
-    ∙ (ap (λ bs. string_bytes c.loop-record.text ++ bs) (c.as-str.ensures.value ∙ c.in-ok-format.ensures.ok)
+    c.in_ok-push_str.ensures.bytes
+    ∙ (ap (λ bs. string_bytes c.loop-record.text ++ bs) (c.as_str.ensures.value ∙ c.in_ok-format.ensures.ok)
     ∙ (ap (λ bs. bs ++ more) c.loop-record.invariant ∙ members_more rs i c.loop-record-test.true))
 
 pub returns : goal.returns

@@ -13,4 +13,4 @@ nearest_itself : (b : Bounds) → nearness_of b b ≡ 4538
 nearest_itself b = omega (arith, no_difference b.birth, no_difference b.service, no_difference b.band)
 
 pub returns : goal.returns
-returns c = record { value = refl; nearness-examples = record { nearest = nearest_itself; farthest = refl } }
+returns c = record { value = refl; nearness_examples = record { nearest = nearest_itself; farthest = refl } }

@@ -4,8 +4,8 @@ use Rattle.boxes.proofs.Counting.{cells_of_box}
 use Rattle.boxes.proofs.Lawfulness.{product_fits}
 use Rattle.boxes.proofs.cell_box.CellBox.cells.Goals as goal
 
-pub overflow-mul-result-2 : goal.overflow-mul-result-2
-overflow-mul-result-2 c =
+pub overflow_mul-result-2 : goal.overflow_mul-result-2
+overflow_mul-result-2 c =
     omega (arith, product_fits c.width.result c.width-2.result c.width-3.result (omega arith) (omega arith) (omega arith))
 
 pub returns : goal.returns

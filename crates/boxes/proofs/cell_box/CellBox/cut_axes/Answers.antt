@@ -18,16 +18,16 @@ next order i p b = at_drop_more (λ axes. remnants axes p b) order i Birth
 pub loop-axis-init : goal.loop-axis-init
 loop-axis-init c = (c.requires, λ end ok a. a)
 
-pub cut-axis-requires : goal.cut-axis-requires
-cut-axis-requires c = meet_along _ c.loop-axis.piece.bounds c.args.by c.loop-axis.invariant.0
+pub cut_axis-requires : goal.cut_axis-requires
+cut_axis-requires c = meet_along _ c.loop-axis.piece.bounds c.args.by c.loop-axis.invariant.0
 
-pub returns-in-err-piece : goal.returns-in-err-piece
-returns-in-err-piece c = record {
+pub returns-in_err-piece : goal.returns-in_err-piece
+returns-in_err-piece c = record {
   after =
-      appended_err c.from-residual.result c.from-residual.ensures.0
+      appended_err c.from_residual.result c.from_residual.ensures.0
       (leads_stop _ _ _ _ c.loop-axis.invariant.1 _ _
       (next c.args.order.now c.loop-axis.axis-index c.loop-axis.piece.bounds c.args.by c.loop-axis-test.true)
-      c.in-err-piece.ensures.after);
+      c.in_err-piece.ensures.after);
 }
 
 pub loop-axis-preserved : goal.loop-axis-preserved
@@ -36,11 +36,11 @@ loop-axis-preserved c =
     let i : ℕ = c.loop-axis.axis-index in
     let p : Bounds = c.loop-axis.piece.bounds in
     let b : Bounds = c.args.by in
-    let left : c.in-ok-piece.piece.bounds ≡ narrowed (get_or order i Birth) p b = c.in-ok-piece.ensures.ok in (
+    let left : c.in_ok-piece.piece.bounds ≡ narrowed (get_or order i Birth) p b = c.in_ok-piece.ensures.ok in (
       ap (λ q. meet q b) left ∙ (meet_narrowed (get_or order i Birth) p b ∙ c.loop-axis.invariant.0),
       leads_more _ _ _ _ c.loop-axis.invariant.1 (remnants_along (get_or order i Birth) p b) _
           (next order i p b c.loop-axis-test.true ∙ ap (λ q. remnants_along (get_or order i Birth) p b ++ remnants (drop (i + 1) order) q b) (sym left))
-          c.in-ok-piece.ensures.after,
+          c.in_ok-piece.ensures.after,
     )
 
 pub returns : goal.returns

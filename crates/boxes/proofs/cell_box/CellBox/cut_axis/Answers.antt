@@ -3,29 +3,29 @@ use Rattle.std.proofs.lemmas.Result.{IfOk-from_err}
 use Rattle.boxes.proofs.Appending.{appended_then, appended_stop, appended_err, appended_named}
 use Rattle.boxes.proofs.cell_box.CellBox.cut_axis.Goals as goal
 
-pub returns-in-err-push-remnant : goal.returns-in-err-push-remnant
-returns-in-err-push-remnant c = record {
+pub returns-in_err-push_remnant : goal.returns-in_err-push_remnant
+returns-in_err-push_remnant c = record {
   after =
-      appended_err c.from-residual.result c.from-residual.ensures.0
-      (appended_stop _ _ _ (appended_named c.cut-along-lower.ensures.first c.in-err-push-remnant.ensures.after));
-  ok = IfOk-from_err c.from-residual.result _ c.from-residual.ensures.0;
+      appended_err c.from_residual.result c.from_residual.ensures.0
+      (appended_stop _ _ _ (appended_named c.cut_along-lower.ensures.first c.in_err-push_remnant.ensures.after));
+  ok = IfOk-from_err c.from_residual.result _ c.from_residual.ensures.0;
 }
 
-pub returns-in-err-push-remnant-2 : goal.returns-in-err-push-remnant-2
-returns-in-err-push-remnant-2 c = record {
+pub returns-in_err-push_remnant-2 : goal.returns-in_err-push_remnant-2
+returns-in_err-push_remnant-2 c = record {
   after =
-      appended_err c.from-residual-in-err-push-remnant-2.result c.from-residual-in-err-push-remnant-2.ensures.0
+      appended_err c.from_residual-in_err-push_remnant-2.result c.from_residual-in_err-push_remnant-2.ensures.0
       (appended_then _ _ _
-      (appended_named c.cut-along-lower.ensures.first c.in-ok-push-remnant.ensures.after)
-      (appended_named c.cut-along-lower.ensures.second c.in-err-push-remnant-2.ensures.after));
-  ok = IfOk-from_err c.from-residual-in-err-push-remnant-2.result _ c.from-residual-in-err-push-remnant-2.ensures.0;
+      (appended_named c.cut_along-lower.ensures.first c.in_ok-push_remnant.ensures.after)
+      (appended_named c.cut_along-lower.ensures.second c.in_err-push_remnant-2.ensures.after));
+  ok = IfOk-from_err c.from_residual-in_err-push_remnant-2.result _ c.from_residual-in_err-push_remnant-2.ensures.0;
 }
 
 pub returns : goal.returns
 returns c = record {
   after =
       appended_then _ _ _
-      (appended_named c.cut-along-lower.ensures.first c.in-ok-push-remnant.ensures.after)
-      (appended_named c.cut-along-lower.ensures.second c.in-ok-push-remnant-2.ensures.after);
+      (appended_named c.cut_along-lower.ensures.first c.in_ok-push_remnant.ensures.after)
+      (appended_named c.cut_along-lower.ensures.second c.in_ok-push_remnant-2.ensures.after);
   ok = search rules;
 }

@@ -12,21 +12,21 @@ use Rattle.boxes.proofs.cell_box.CellBox.split.Goals as goal
 pub loop-region-init : goal.loop-region-init
 loop-region-init g c = refl
 
-pub returns-in-err-pieces : goal.returns-in-err-pieces
-returns-in-err-pieces g c = record {
+pub returns-in_err-pieces : goal.returns-in_err-pieces
+returns-in_err-pieces g c = record {
   value =
-      given_err c.from-residual.result c.from-residual.ensures.0
+      given_err c.from_residual.result c.from_residual.ensures.0
       ∙ row_stop g.R.HasBounds.bounds cut_order c.args.regions.now c.loop-region.region-index _ (pieces_of c.loop-region.pieces) c.loop-region.invariant
       c.region-item.result c.loop-region-test.true c.region-item.is c.bounds.result c.bounds.ensures.value
-      c.of-pieces.ensures.value c.in-err-pieces.ensures.value;
-  remainder = IfOk-from_err c.from-residual.result _ c.from-residual.ensures.0;
+      c.of-pieces.ensures.value c.in_err-pieces.ensures.value;
+  remainder = IfOk-from_err c.from_residual.result _ c.from_residual.ensures.0;
 }
 
 pub loop-region-preserved : goal.loop-region-preserved
 loop-region-preserved g c =
     row_more g.R.HasBounds.bounds cut_order c.args.regions.now c.loop-region.region-index _ (pieces_of c.loop-region.pieces) c.loop-region.invariant
     c.region-item.result c.loop-region-test.true c.region-item.is c.bounds.result c.bounds.ensures.value
-    (pieces_of c.in-ok-pieces.pieces) c.in-ok-pieces.ensures.value
+    (pieces_of c.in_ok-pieces.pieces) c.in_ok-pieces.ensures.value
 
 pub returns : goal.returns
 returns g c =

@@ -3,6 +3,6 @@ use Rattle.domain.specs.Attributes.{Lawful}
 use Rattle.boxes.proofs.Lawfulness.{lawful_with}
 use Rattle.boxes.proofs.cell_box.CellBox.with.Goals as goal
 
-pub invariant-of-result : goal.invariant-of-result
-invariant-of-result c =
-    (subst Lawful (sym c.with.ensures.value) (lawful_with c.args.axis c.args.span c.args.self.bounds c.requires c.args.self.ok), tt)
+pub invariant_of-result : goal.invariant_of-result
+invariant_of-result c =
+    record { ok = subst Lawful (sym c.with.ensures.value) (lawful_with c.args.axis c.args.span c.args.self.bounds c.requires c.args.self.ok) }

@@ -5,11 +5,11 @@ use Rattle.boxes.specs.Pieces.{pieces_of}
 use Rattle.boxes.proofs.Lawfulness.{all_lawful_at}
 use Rattle.boxes.proofs.cell_box.pieces.Pieces.at.Goals as goal
 
-pub invariant-of-result : goal.invariant-of-result
-invariant-of-result c =
+pub invariant_of-result : goal.invariant_of-result
+invariant_of-result c =
     let fits : c.args.self.now.len ≤ 32 = c.args.self.now.fits in
     let room : c.args.place < length c.args.self.now.boxes = search rules in
-    (all_lawful_at c.args.self.now.boxes c.args.place _ room c.args.self.now.lawful, tt)
+    record { ok = all_lawful_at c.args.self.now.boxes c.args.place _ room c.args.self.now.lawful }
 
 pub returns : goal.returns
 returns c =

@@ -7,8 +7,8 @@ use Rattle.boxes.proofs.Lawfulness.{cells_fit}
 use Rattle.boxes.proofs.Places.{nth_drop}
 use Rattle.boxes.proofs.cell_box.pieces.Pieces.cells.Goals as goal
 
-pub overflow-add-total : goal.overflow-add-total
-overflow-add-total c =
+pub overflow_add-total : goal.overflow_add-total
+overflow_add-total c =
     let few : c.args.self.now.len ≤ 32 = c.args.self.now.fits in
     omega (arith, cells_fit c.at.result.bounds c.at.result.ok)
 

@@ -19,14 +19,14 @@ loop-piece-init c = (
   λ end ok a. subst (λ xs. Appended xs (cut_all_in cut_order (pieces_of c.args.self.now) c.args.region) end ok) c.new-pieces.ensures.value a,
 )
 
-pub returns-in-err-cut-into : goal.returns-in-err-cut-into
-returns-in-err-cut-into c = record {
+pub returns-in_err-cut_into : goal.returns-in_err-cut_into
+returns-in_err-cut_into c = record {
   value =
-      given_err c.from-residual.result c.from-residual.ensures.0
-      ∙ appended_broken _ (pieces_of c.cut-into.new.out)
+      given_err c.from_residual.result c.from_residual.ensures.0
+      ∙ appended_broken _ (pieces_of c.cut_into.new.out)
       (leads_stop _ _ _ _ c.loop-piece.invariant.1 _ _
       (next (pieces_of c.args.self.now) c.loop-piece.place c.in-Some.piece.bounds c.args.region c.in-Some.ensures.value)
-      c.in-err-cut-into.ensures.after);
+      c.in_err-cut_into.ensures.after);
 }
 
 pub loop-piece-smaller : goal.loop-piece-smaller
@@ -38,7 +38,7 @@ loop-piece-preserved c = (
   omega (arith, nth_within (pieces_of c.args.self.now) c.loop-piece.place c.in-Some.piece.bounds c.in-Some.ensures.value),
   leads_more _ _ _ _ c.loop-piece.invariant.1 _ _
       (next (pieces_of c.args.self.now) c.loop-piece.place c.in-Some.piece.bounds c.args.region c.in-Some.ensures.value)
-      c.in-ok-cut-into.ensures.after,
+      c.in_ok-cut_into.ensures.after,
 )
 
 pub returns : goal.returns
@@ -47,6 +47,6 @@ returns c = record {
       appended_unbroken _ (pieces_of c.loop-piece.pieces)
       (leads_end _ _ _ _ c.loop-piece.invariant.1
       (ap (λ qs. cut_all_in cut_order qs c.args.region)
-      (drop_all c.loop-piece.place (pieces_of c.args.self.now) (nth_end (pieces_of c.args.self.now) c.loop-piece.place c.in-default.ensures.value)))
+      (drop_all c.loop-piece.place (pieces_of c.args.self.now) (nth_end (pieces_of c.args.self.now) c.loop-piece.place c.in_default.ensures.value)))
       (pieces_fit c.loop-piece.pieces));
 }

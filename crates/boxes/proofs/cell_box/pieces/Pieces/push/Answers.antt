@@ -8,14 +8,12 @@ use Rattle.boxes.proofs.Appending.{appended_all, pieces_length}
 use Rattle.boxes.proofs.Lawfulness.{all_lawful_set}
 use Rattle.boxes.proofs.cell_box.pieces.Pieces.push.Goals as goal
 
-pub invariant-of-self : goal.invariant-of-self
-invariant-of-self c = (
-  simp length-set c.args.self.now.places,
-  (
-    (let fits : c.args.self.now.len ≤ 32 = c.args.self.now.fits in omega arith),
-    (all_lawful_set c.args.self.now.boxes c.args.self.now.len c.args.piece.bounds c.args.piece.ok c.args.self.now.lawful, tt),
-  ),
-)
+pub invariant_of-self : goal.invariant_of-self
+invariant_of-self c = record {
+  places = simp length-set c.args.self.now.places;
+  fits = (let fits : c.args.self.now.len ≤ 32 = c.args.self.now.fits in omega arith);
+  lawful = all_lawful_set c.args.self.now.boxes c.args.self.now.len c.args.piece.bounds c.args.piece.ok c.args.self.now.lawful;
+}
 
 pub returns : goal.returns
 returns c =
@@ -28,8 +26,8 @@ returns c =
     take_more_set c.args.self.now.boxes c.args.self.now.len c.args.piece.bounds (omega arith) in
     record { after = subst (λ xs. Appended before one xs true) (sym is) (appended_all before one room) }
 
-pub returns-then-self-eq-MAX-PIECES : goal.returns-then-self-eq-MAX-PIECES
-returns-then-self-eq-MAX-PIECES c =
+pub returns-then-self-eq-MAX_PIECES : goal.returns-then-self-eq-MAX_PIECES
+returns-then-self-eq-MAX_PIECES c =
     let before : List Bounds = pieces_of c.args.self.now in
     let full : length before ≡ 32 = omega (arith, pieces_length c.args.self.now) in
     record {

@@ -12,7 +12,7 @@ returns c =
       answers = record { found = found; value = c.select.ensures.value; buffer = c.select.ensures.after; selects = λ _. same_refl found };
       charge = c.charge.ensures.after;
       same_relation = refl;
-      stays-sound = λ s. s;
+      stays_sound = λ s. s;
       steps = record {
         value = c.select.ensures.value;
         buffer = c.select.ensures.after;
