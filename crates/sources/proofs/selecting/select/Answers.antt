@@ -6,7 +6,7 @@ use Rattle.sources.specs.declared.record.Record.{Record}
 use Rattle.sources.specs.Records.{blank}
 use Rattle.sources.specs.Selections.{selection}
 use Rattle.sources.proofs.selecting.select.Goals as goal
-use Rattle.sources.proofs.selecting.select.Goals.{else-lies-in, then-lies-in+else-count-out}
+use Rattle.sources.proofs.selecting.select.Goals.{else-lies_in, then-lies_in+else-count-out}
 
 pub loop-record-init : goal.loop-record-init
 unfolding selection
@@ -31,11 +31,11 @@ loop-record-preserved c =
     let here : i < length rs = c.loop-record-test.true in
     let before : List Record = c.args.out.now in
     elim c.if-lies_in.branch [
-      | then-lies-in+else-count-out w ↦
+      | then-lies_in+else-count-out w ↦
           let room : c.loop-record.count < length before = omega (arith, w.if-count-out.false) in
           simp (w.out-is, w.count-is, selection_yes b rs i blank here (sym w.if-lies_in.ensures.value))
           (filled_more _ _ _ _ c.loop-record.invariant (get_or rs i blank) room)
-      | else-lies-in w ↦
+      | else-lies_in w ↦
           simp (w.out-is, w.count-is, selection_no b rs i blank here (sym w.if-lies_in.ensures.value)) c.loop-record.invariant
     ]
 
