@@ -1,6 +1,7 @@
 //! Boxes, splits and plans, tried by running.
 
 #![tactic(auto)]
+
 #[cfg(test)]
 mod tests {
     use boxes::{CellBox, Pieces};

@@ -1,6 +1,7 @@
 //! The three attributes of a member, the plain numbers of boxes over them, months of birth, and the refusals of every call.
 
 #![tactic(auto)]
+
 pub mod attributes;
 pub mod calendar;
 pub mod refusals;

@@ -1,5 +1,5 @@
 -- Boxes written as numbers.
-use Rattle.std.specs.Prelude.{◌≡◌, ℕ, List, [], ◌∷◌, ◌≢◌}
+use Rattle.std.specs.Prelude.{ℕ, List, [], ◌∷◌, ◌≢◌}
 use Rattle.std.specs.List.{flat_map}
 use Rattle.domain.specs.declared.attributes.Bounds.{Bounds}
 

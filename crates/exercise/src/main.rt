@@ -4,6 +4,7 @@
 //! service and band, each with its lower end before its upper end, and each six words after them are a region.
 
 #![tactic(auto)]
+
 ghost use Rattle.std.specs.Prelude.{◌≡◌};
 ghost use Rattle.std.specs.Result.{result_ok};
 

@@ -1,6 +1,7 @@
 //! Records, what a source of them is, and what sources are made of: collections, selections and meters.
 
 #![tactic(auto)]
+
 pub mod collections;
 pub mod metering;
 pub mod record;

@@ -1,6 +1,7 @@
 //! Collections, tables and value functions, tried by running.
 
 #![tactic(auto)]
+
 #[cfg(test)]
 mod tests {
     use boxes::CellBox;

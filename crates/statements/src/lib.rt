@@ -1,6 +1,7 @@
 //! Answers as the course writes them.
 
 #![tactic(auto)]
+
 pub mod text;
 
 pub use text::answer_text;

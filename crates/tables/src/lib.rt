@@ -1,6 +1,7 @@
 //! The table: a source that reads a lent list of records.
 
 #![tactic(auto)]
+
 pub mod cohort;
 pub mod table;
 

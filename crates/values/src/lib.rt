@@ -1,6 +1,7 @@
 //! Regions, and what they are worth to a question: value functions.
 
 #![tactic(auto)]
+
 pub mod nearness;
 pub mod recency;
 pub mod region;

@@ -1,6 +1,7 @@
 //! The worked examples of the course, as one proved fact over the definitions that the contracts use.
 
 #![tactic(auto)]
+
 ghost use Rattle.std.specs.Prelude.{◌≡◌};
 ghost use Rattle.worked.specs.Examples.{WorkedExamples, last_question, last_region};
 
