@@ -16,18 +16,21 @@ use boxes::{CellBox, Pieces};
 use domain::{Bounds, Refusal};
 use std::alloc::Global;
 use std::env;
+use std::process::ExitCode;
 use worked::worked_examples;
 
 mod statement;
 mod text;
 mod words;
 
-fn main(rt: HostRuntime) -> anyhow::Result<()> {
-    let outcome = run(&rt);
-    if let Err(fault) = &outcome {
-        let _ = eprintln!(rt; "exercise: {fault}");
+fn main(rt: HostRuntime) -> ExitCode {
+    match run(&rt) {
+        Ok(()) => ExitCode::SUCCESS,
+        Err(fault) => {
+            let _ = eprintln!(rt; "exercise: {fault}");
+            ExitCode::FAILURE
+        }
     }
-    outcome
 }
 
 /// Reads the words and works their split.
