@@ -1,8 +1,8 @@
 -- What makes a collection: one test after another, and in plain words.
-use Rattle.std.proofs.Common.{◌≡◌, ℕ, ◌<◌, true, ltb, leb, List, [], ◌∷◌, length, Decides, refl, ap, subst, inl, inr, arith}
-use Rattle.std.proofs.ByRecursion.{all-has}
+use Rattle.std.proofs.Common.{◌≡◌, ℕ, ◌<◌, true, ltb, leb, List, [], ◌∷◌, length, All, Decides, refl, ap, subst, inl, inr, arith}
 use Rattle.std.proofs.lemmas.Bool.{and_from, and_parts, cond_both, le-leb, leb-true, lt-ltb, ltb-true}
-use Rattle.std.specs.List.{ContainsAt as Has, AllByRecursion as All}
+use Rattle.std.proofs.lemmas.List.Elements.{All-nil, All-cons, All-head, All-tail, All-contains, Contains-from_at}
+use Rattle.std.specs.List.{ContainsAt as Has}
 use Rattle.domain.specs.declared.attributes.Bounds.{Bounds}
 use Rattle.domain.specs.Attributes.{whole_domain}
 use Rattle.sources.proofs.Members.{has_cases, has_first, has_none, pairwise_first, pairwise_kept, pairwise_later, pairwise_more, pairwise_none}
@@ -37,8 +37,8 @@ rising n [] e = pairwise_none Below
 rising n (r ∷ rs) e = let p = first n r rs e in pairwise_more Below r rs (above r.number rs p.2) (rising r.number rs p.2)
 
 lawful_members : (n : ℕ) (rs : List Record) → follow_on n rs ≡ true → All LawfulRecord rs
-lawful_members n [] e = tt
-lawful_members n (r ∷ rs) e = let p = first n r rs e in (p.1, lawful_members r.number rs p.2)
+lawful_members n [] e = All-nil LawfulRecord
+lawful_members n (r ∷ rs) e = let p = first n r rs e in All-cons LawfulRecord r rs p.1 (lawful_members r.number rs p.2)
 
 collection_from_test : (rs : List Record) → is_collection rs ≡ true → Collection rs
 collection_from_test rs e =
@@ -49,13 +49,14 @@ collection_from_test rs e =
 following : (n : ℕ) (rs : List Record) → ((s : Record) → Has rs s → n < s.number) → Rising rs → All LawfulRecord rs → follow_on n rs ≡ true
 following n [] low up members = refl
 following n (r ∷ rs) low up members =
+    let member : LawfulRecord r = All-head LawfulRecord r rs members in
     and_from _ _
-    (and_from _ _ (lt-ltb _ _ (low r (has_first r rs))) (and_from _ _ (le-leb _ _ members.0.0) members.0.1))
-    (following r.number rs (pairwise_first Below r rs up) (pairwise_later Below r rs up) members.1)
+    (and_from _ _ (lt-ltb _ _ (low r (has_first r rs))) (and_from _ _ (le-leb _ _ member.0) member.1))
+    (following r.number rs (pairwise_first Below r rs up) (pairwise_later Below r rs up) (All-tail LawfulRecord r rs members))
 
 test_from_collection : (rs : List Record) → Collection rs → is_collection rs ≡ true
 test_from_collection rs c =
-    and_from _ _ (le-leb _ _ c.few) (following 0 rs (λ s h. (all-has LawfulRecord rs s c.members h).0) c.rises c.members)
+    and_from _ _ (le-leb _ _ c.few) (following 0 rs (λ s h. (All-contains LawfulRecord rs s c.members (Contains-from_at rs s h)).0) c.rises c.members)
 
 pub collection_decides : (rs : List Record) → Decides (is_collection rs) (Collection rs)
 collection_decides rs = (collection_from_test rs, test_from_collection rs)

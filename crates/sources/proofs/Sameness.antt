@@ -1,6 +1,6 @@
 -- Lists that have the same records.
 use Rattle.std.proofs.Common.{◌≡◌, ℕ, ◌+◌, ◌*◌, ◌<◌, ◌≤◌, Bool, true, false, cond, ◌&&◌, eqb, ◌≢◌, ◌↔◌, List, [], ◌∷◌, ◌++◌, length, Decides, sum_by, count_by, filter, sym, refl, ap, ◌∙◌, inl, inr, mul-zero, mul-add, arith}
-use Rattle.std.proofs.ByRecursion.{all-has}
+use Rattle.std.proofs.lemmas.List.Elements.{All-contains, Contains-from_at}
 use Rattle.std.proofs.lemmas.List.Sums.{sum_by-append, sum_by-cons}
 use Rattle.std.proofs.lemmas.Bool.{and_from, cases_lt}
 use Rattle.std.proofs.lemmas.Bool.Decides.{Decides-and, Decides-eqb, Decides-like}
@@ -167,5 +167,5 @@ selection_laws = record {
   counted = same_length;
   appended = same_append;
   filtered = same_kept;
-  never_blank = λ relation l h. omega (arith, (all-has LawfulRecord relation blank l.members h).0);
+  never_blank = λ relation l h. omega (arith, (All-contains LawfulRecord relation blank l.members (Contains-from_at relation blank h)).0);
 }

@@ -1,6 +1,5 @@
 -- Collections: the lists of records that can be kept and handed on.
-use Rattle.std.specs.Prelude.{ℕ, ◌<◌, ◌≤◌, Bool, true, cond, ◌&&◌, List, [], ◌∷◌, length, nat_le, nat_lt}
-use Rattle.std.specs.List.{AllByRecursion as All}
+use Rattle.std.specs.Prelude.{ℕ, ◌<◌, ◌≤◌, Bool, true, cond, ◌&&◌, List, [], ◌∷◌, length, nat_le, nat_lt, All}
 use Rattle.sources.specs.declared.record.Record.{Record}
 use Rattle.sources.specs.Pairs.{Pairwise}
 use Rattle.sources.specs.Records.{LawfulRecord, is_lawful_record}

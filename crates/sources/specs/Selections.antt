@@ -1,6 +1,6 @@
 -- Selections: which records of a list lie in a box, and when two lists have the same records.
-use Rattle.std.specs.Prelude.{◌≡◌, Bool, true, ◌↔◌, List, ◌++◌, length, count_by, filter}
-use Rattle.std.specs.List.{ContainsAt as Has, flat_map, AllByRecursion as All}
+use Rattle.std.specs.Prelude.{◌≡◌, Bool, true, ◌↔◌, List, ◌++◌, length, count_by, filter, All}
+use Rattle.std.specs.List.{ContainsAt as Has, flat_map}
 use Rattle.domain.specs.declared.attributes.Bounds.{Bounds}
 use Rattle.domain.specs.declared.attributes.Cell.{Cell}
 use Rattle.domain.specs.Cells.{Divides}

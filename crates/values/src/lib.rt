@@ -7,7 +7,7 @@ pub mod recency;
 pub mod region;
 pub mod value_function;
 
-pub use nearness::{Nearness, nearness_examples};
+pub use nearness::Nearness;
 pub use recency::Recency;
 pub use region::{PlainRegion, Region};
 pub use value_function::ValueFunction;

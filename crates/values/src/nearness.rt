@@ -21,6 +21,7 @@ impl ValueFunction for Nearness {
         ensures value { result ≡ nearness_of (plain_of region).bounds area.bounds }
         ensures complement { result + distance_of (plain_of region).bounds area.bounds ≡ farthest }
         ensures nearest { (result ≡ farthest) ↔ SameSums (plain_of region).bounds area.bounds }
+        ensures nearness_examples { NearnessExamples }
     {
         FARTHEST - distance(region.area(), area)
     }
@@ -47,12 +48,4 @@ fn sum(span: Span) -> u32
     ensures value { result ≡ sum_of span }
 {
     u32::from(span.low) + u32::from(span.high)
-}
-
-/// The worked examples of nearness hold. What is given is the greatest distance of two boxes.
-pub fn nearness_examples() -> u32
-    ensures value { result ≡ farthest }
-    ensures nearness_examples { NearnessExamples }
-{
-    FARTHEST
 }
