@@ -5,7 +5,6 @@
 #[cfg(test)]
 mod tests {
     use boxes::{CellBox, Pieces};
-    use domain::rows::HasBounds;
     use domain::{Bounds, Cell, Refusal, Span, YearMonth};
     use std::alloc::{AllocError, Global};
     use std::test::Fail;
