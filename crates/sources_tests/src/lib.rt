@@ -7,6 +7,7 @@ mod tests {
     use boxes::CellBox;
     use domain::{Bounds, Refusal, Span};
     use sources::{Record, Source, is_collection};
+    use statements::answer_text;
     use std::alloc::{AllocError, Global};
     use std::test::Fail;
     use tables::{Table, draw};
@@ -217,6 +218,21 @@ mod tests {
         assert_eq!(rt; region.plain().stamp, 41);
         assert_eq!(rt; region.count(), 7);
         assert_eq!(rt; region.plain().count, 7);
+        Ok(())
+    }
+
+    #[test]
+    fn answers_are_written_with_their_numbers(rt: HostRuntime) -> Result<(), Fail> {
+        assert_eq!(rt; answer_text(rt.alloc(), &[])?.as_str(), "answer 0");
+        let answered = [member(4, 798, 200, 6), member(9, 874, 12, 8)];
+        assert_eq!(rt;
+            answer_text(rt.alloc(), &answered)?.as_str(),
+            "answer 2: 4 9"
+        );
+        assert_eq!(rt;
+            answer_text(rt.alloc(), &answered[1..])?.as_str(),
+            "answer 1: 9"
+        );
         Ok(())
     }
 }
