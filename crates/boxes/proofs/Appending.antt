@@ -1,6 +1,6 @@
 -- `Appended`: pieces that are added one after another, within the 32 places.
 use Rattle.std.proofs.Common.{◌≡◌, ◌<◌, ◌≤◌, Bool, true, false, leb, List, [], ◌++◌, length, take, is_ok, is_err, Some, None, Ok, Err, Option, Result, sym, refl, ap, ◌∙◌, subst, append_assoc, append-nil, arith, length-append, length-take}
-use Rattle.std.proofs.lemmas.List.{take_all, take-append-le}
+use Rattle.std.proofs.lemmas.List.{length-map, take_all, take-append-le}
 use Rattle.std.proofs.lemmas.Bool.{cond-false, cond-true, false≢true, le-leb, leb-false, leb-true, lt-leb}
 use Rattle.std.specs.Option.{option_to_list}
 use Rattle.domain.specs.declared.attributes.Bounds.{Bounds}
@@ -16,7 +16,7 @@ pub pieces_length : (p : Pieces) → length (pieces_of p) ≡ p.len
 pieces_length p =
     let fits : p.len ≤ 32 = p.fits in
     let whole : length p.boxes ≡ 32 = p.places in
-    simp length-take (omega arith)
+    simp (length-map, length-take) (omega arith)
 
 pub pieces_fit : (p : Pieces) → length (pieces_of p) ≤ 32
 pieces_fit p = let fits : p.len ≤ 32 = p.fits in omega (arith, pieces_length p)

@@ -1,24 +1,26 @@
--- What stands at a place of a list, and what is left from there on.
-use Rattle.std.proofs.Common.{◌≡◌, ℕ, zero, suc, ◌+◌, ◌<◌, ◌≤◌, List, [], ◌∷◌, length, drop, Some, None, Option, sym, ap, add-one, arith}
-use Rattle.std.specs.List.{slice_get}
+-- Lists that are known place by place, and the numbers of boxes.
+use Rattle.std.proofs.Common.{◌≡◌, ℕ, ◌+◌, ◌*◌, ◌<◌, ◌≤◌, List, [], ◌∷◌, length, map, get_or, sum_by, sym, refl, ap, ◌∙◌, arith}
+use Rattle.std.proofs.lemmas.List.{ext_get_or, get_or-map, length-map, nil_from_length}
+use Rattle.std.proofs.lemmas.List.Sums.{sum_by-cons}
+use Rattle.boxes.specs.declared.cell_box.CellBox.{CellBox}
+use Rattle.domain.specs.Cells.{total_cells}
+use Rattle.boxes.specs.Pieces.{box_cells, numbers_of}
+use Rattle.boxes.proofs.Lawfulness.{cells_fit}
 
-none≢some : {X : Type 0} (x : X) → ◌≡◌ {A = Option X} None (Some x) → ⊥
-none≢some x e = let z : ◌≡◌ {A = ℕ} 0 1 = cc in omega arith
+-- a list that has f of each element at its place
+pub mapped : {X Y : Type 0} (f : X → Y) (xs : List X) (ys : List Y) → length ys ≡ length xs
+    → ((i : ℕ) (d : X) (e : Y) → i < length xs → get_or ys i e ≡ f (get_or xs i d)) → ys ≡ map f xs
+mapped f [] ys l h = nil_from_length ys l
+mapped f (x ∷ xs) ys l h =
+    ext_get_or (f x) ys (map f (x ∷ xs)) (l ∙ sym (length-map (x ∷ xs) f)) (λ i k.
+    let here : i < length (x ∷ xs) = omega (arith, l) in h i x (f x) here ∙ sym (get_or-map f (x ∷ xs) i x (f x) here))
 
-pub nth_within : {X : Type 0} (xs : List X) (i : ℕ) (x : X) → Some x ≡ slice_get xs i → i < length xs
-nth_within [] i x e = absurd (none≢some x (sym e))
-nth_within (y ∷ xs) zero x e = omega arith
-nth_within (y ∷ xs) (suc i) x e = omega (arith, nth_within xs i x e)
+-- the cells of boxes, added up box by box
+pub cells_by_box : (bs : List CellBox) → sum_by box_cells bs ≡ total_cells (numbers_of bs)
+cells_by_box [] = refl
+cells_by_box (b ∷ bs) = sum_by-cons box_cells b bs ∙ ap (λ n. box_cells b + n) (cells_by_box bs)
 
-nth_drop_suc : {X : Type 0} (xs : List X) (i : ℕ) (x : X) → Some x ≡ slice_get xs i → drop i xs ≡ x ∷ drop (suc i) xs
-nth_drop_suc [] i x e = absurd (none≢some x (sym e))
-nth_drop_suc (y ∷ xs) zero x e = let same : x ≡ y = cc in ap (λ z. z ∷ xs) (sym same)
-nth_drop_suc (y ∷ xs) (suc i) x e = nth_drop_suc xs i x e
-
-pub nth_drop : {X : Type 0} (xs : List X) (i : ℕ) (x : X) → Some x ≡ slice_get xs i → drop i xs ≡ x ∷ drop (i + 1) xs
-nth_drop xs i x e = rw add-one (nth_drop_suc xs i x e)
-
-pub nth_end : {X : Type 0} (xs : List X) (i : ℕ) → None ≡ slice_get xs i → length xs ≤ i
-nth_end [] i e = omega arith
-nth_end (y ∷ xs) zero e = absurd (none≢some y e)
-nth_end (y ∷ xs) (suc i) e = omega (arith, nth_end xs i e)
+-- each of them has no more cells than the domain
+pub cells_bounded : (bs : List CellBox) → total_cells (numbers_of bs) ≤ length bs * 17694720
+cells_bounded [] = omega arith
+cells_bounded (b ∷ bs) = omega (arith, cells_bounded bs, cells_fit b.bounds b.ok)

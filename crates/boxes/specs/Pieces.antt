@@ -1,8 +1,9 @@
--- The plain numbers of boxes that may be absent, and of lists of pieces.
-use Rattle.std.specs.Prelude.{List, take, Option, Result}
+-- The plain numbers of boxes that may be absent, of lists of boxes, and of pieces.
+use Rattle.std.specs.Prelude.{ℕ, List, map, take, Option, Result}
 use Rattle.std.specs.Option.{option_map}
 use Rattle.std.specs.Result.{result_ok}
 use Rattle.domain.specs.declared.attributes.Bounds.{Bounds}
+use Rattle.domain.specs.Attributes.{cells_of}
 use Rattle.boxes.specs.declared.cell_box.CellBox.{CellBox}
 use Rattle.boxes.specs.declared.cell_box.pieces.Pieces.{Pieces}
 
@@ -10,9 +11,17 @@ use Rattle.boxes.specs.declared.cell_box.pieces.Pieces.{Pieces}
 abbrev pub bounds_of : Option CellBox → Option Bounds
 bounds_of o = option_map (λ b. b.bounds) o
 
+-- the cells of a box
+abbrev pub box_cells : CellBox → ℕ
+box_cells b = cells_of b.bounds
+
+-- the numbers of boxes, in order
+abbrev pub numbers_of : List CellBox → List Bounds
+numbers_of bs = map (λ (b : CellBox). b.bounds) bs
+
 -- the pieces of a list, in order
 abbrev pub pieces_of : Pieces → List Bounds
-pieces_of p = take p.len p.boxes
+pieces_of p = numbers_of (take p.len p.boxes)
 
 -- the pieces that a call gives, if it does not find too many
 abbrev pub pieces_given : {E : Type 0} → Result Pieces E → Option (List Bounds)

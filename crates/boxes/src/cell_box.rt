@@ -12,7 +12,7 @@ pub mod splitting;
 
 /// A box: a closed range in each attribute, every lower end at or below its upper end and both in the span of the
 /// attribute.
-#[derive(Clone, Copy)]
+#[derive(Clone, Copy, PartialEq, Eq, Debug)]
 pub struct CellBox {
     bounds: Bounds,
     ghost ok: { Lawful bounds },

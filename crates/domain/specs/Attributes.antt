@@ -54,14 +54,6 @@ in_order s = nat_le s.low s.high
 abbrev pub all_in_order : Bounds → Bool
 all_in_order b = in_order b.birth && (in_order b.service && in_order b.band)
 
--- the test of `Lawful`, for one box and for a list
-abbrev pub is_lawful : Bounds → Bool
-is_lawful b = all_in_span b && all_in_order b
-
-abbrev pub are_lawful : List Bounds → Bool
-are_lawful [] = true
-are_lawful (b ∷ bs) = is_lawful b && are_lawful bs
-
 -- why six numbers make no box: a number out of span is told before a lower end above its upper end
 abbrev pub refusal_of : Bounds → Option Refusal
 refusal_of b = cond (all_in_span b) (cond (all_in_order b) None (Some ReversedRange)) (Some InvalidRange)

@@ -6,7 +6,7 @@ ghost use Rattle.std.specs.Result.{result_err};
 use crate::refusals::Refusal;
 
 /// One of the three attributes of a member.
-#[derive(Clone, Copy)]
+#[derive(Clone, Copy, PartialEq, Eq, Debug)]
 pub enum Axis {
     /// The month of birth, as its rank: `YearMonth` in calendar.rt.
     Birth,
@@ -33,7 +33,7 @@ pub struct Bounds {
 }
 
 /// One choice of birth rank, service and band.
-#[derive(Clone, Copy)]
+#[derive(Clone, Copy, PartialEq, Eq, Debug)]
 pub struct Cell {
     pub birth: u16,
     pub service: u16,

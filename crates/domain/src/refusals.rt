@@ -8,23 +8,23 @@ use std::fmt;
 #[derive(Clone, Copy, PartialEq, Eq, Debug)]
 pub enum Refusal {
     /// 9: a question line has more than 80 bytes.
-    LineTooLong,
+    LineTooLong = 9,
     /// 10: a word where a keyword belongs is none of the three.
-    UnknownKeyword,
+    UnknownKeyword = 10,
     /// 11: a keyword comes a second time.
-    RepeatedKeyword,
+    RepeatedKeyword = 11,
     /// 12: a range is absent, malformed or out of span, or one of a box's six numbers is out of span.
-    InvalidRange,
+    InvalidRange = 12,
     /// 13: a lower end is above its upper end.
-    ReversedRange,
+    ReversedRange = 13,
     /// 14: the buffer has fewer places than the records asked for.
-    BufferTooShort,
+    BufferTooShort = 14,
     /// 15: no region has the place given.
-    NoSuchRegion,
+    NoSuchRegion = 15,
     /// 16: the split that was to be planned is broken.
-    SplitTooLarge,
+    SplitTooLarge = 16,
     /// 17: the list given for a plan has fewer places than remainder boxes.
-    ListTooShort,
+    ListTooShort = 17,
 }
 
 impl Refusal {
@@ -32,17 +32,7 @@ impl Refusal {
     pub fn number(self) -> u8
         ensures value { result ≡ number_of self }
     {
-        match self {
-            Refusal::LineTooLong => 9,
-            Refusal::UnknownKeyword => 10,
-            Refusal::RepeatedKeyword => 11,
-            Refusal::InvalidRange => 12,
-            Refusal::ReversedRange => 13,
-            Refusal::BufferTooShort => 14,
-            Refusal::NoSuchRegion => 15,
-            Refusal::SplitTooLarge => 16,
-            Refusal::ListTooShort => 17,
-        }
+        self as u8
     }
 }
 

@@ -1,5 +1,5 @@
 ghost use Rattle.std.specs.Prelude.{◌≡◌, true, [], ◌∷◌, is_ok, IfOk};
-ghost use Rattle.domain.specs.Attributes.{meet, shares, span_of};
+ghost use Rattle.domain.specs.Attributes.{meet};
 ghost use Rattle.boxes.specs.Cuts.{Complete, cut_of, cut_order, lower_of, narrowed, remnants, remnants_along, upper_of};
 ghost use Rattle.boxes.specs.Pieces.{bounds_of, pieces_of};
 ghost use Rattle.boxes.specs.Splits.{Appended, DividesInAnyOrder, Remainder};
@@ -21,6 +21,91 @@ pub fn cut_order() -> [Axis; 3]
     CUT_ORDER
 }
 
+/// A piece and a box that cuts it: the two share a cell.
+#[derive(Clone, Copy)]
+struct Overlap {
+    piece: CellBox,
+    by: Bounds,
+    ghost meets: { meet piece.bounds by ≡ true },
+}
+
+impl Overlap {
+    /// The remnants below and above the box along one attribute. Either may be absent.
+    fn cut_along(self, axis: Axis) -> (Option<CellBox>, Option<CellBox>)
+        ensures first { bounds_of result.0 ≡ lower_of axis self.piece.bounds self.by }
+        ensures second { bounds_of result.1 ≡ upper_of axis self.piece.bounds self.by }
+    {
+        let whole = self.piece.along(axis);
+        let taken = self.by.along(axis);
+        let lower = if whole.low < taken.low {
+            Some(
+                self.piece.with(
+                    axis,
+                    Span {
+                        low: whole.low,
+                        high: taken.low - 1,
+                    },
+                ),
+            )
+        } else {
+            None
+        };
+        let upper = if taken.high < whole.high {
+            Some(
+                self.piece.with(
+                    axis,
+                    Span {
+                        low: taken.high + 1,
+                        high: whole.high,
+                    },
+                ),
+            )
+        } else {
+            None
+        };
+        (lower, upper)
+    }
+
+    /// The piece narrowed to the box along one attribute.
+    fn narrow(self, axis: Axis) -> Overlap
+        ensures piece { result.piece.bounds ≡ narrowed axis self.piece.bounds self.by }
+        ensures by { result.by ≡ self.by }
+    {
+        let whole = self.piece.along(axis);
+        let taken = self.by.along(axis);
+        let common = Span {
+            low: whole.low.max(taken.low),
+            high: whole.high.min(taken.high),
+        };
+        Overlap {
+            piece: self.piece.with(axis, common),
+            by: self.by,
+        }
+    }
+
+    /// Cuts along one attribute: the remnants go to `out`, and what they leave of the piece is given back.
+    fn cut_axis(self, axis: Axis, out: &mut Pieces) -> Result<Overlap, TooManyPieces>
+        ensures after { Appended (pieces_of out.old) (remnants_along axis self.piece.bounds self.by) (pieces_of out.new) (is_ok result) }
+        ensures ok { IfOk result (λ rest. (rest.piece.bounds ≡ narrowed axis self.piece.bounds self.by) × (rest.by ≡ self.by)) }
+    {
+        let (lower, upper) = self.cut_along(axis);
+        push_remnant(out, lower)?;
+        push_remnant(out, upper)?;
+        Ok(self.narrow(axis))
+    }
+
+    /// Cuts along one attribute after another; the remnants go to `out`, in the order found.
+    fn cut_axes(self, order: &[Axis], out: &mut Pieces) -> Result<(), TooManyPieces>
+        ensures after { Appended (pieces_of out.old) (remnants order.now self.piece.bounds self.by) (pieces_of out.new) (is_ok result) }
+    {
+        let mut rest = self;
+        for axis in order {
+            rest = rest.cut_axis(*axis, out)?;
+        }
+        Ok(())
+    }
+}
+
 /// Adds a remnant, if there is one.
 fn push_remnant(out: &mut Pieces, remnant: Option<CellBox>) -> Result<(), TooManyPieces>
     ensures after { Appended (pieces_of out.old) (option_to_list (bounds_of remnant)) (pieces_of out.new) (is_ok result) }
@@ -32,87 +117,13 @@ fn push_remnant(out: &mut Pieces, remnant: Option<CellBox>) -> Result<(), TooMan
 }
 
 impl CellBox {
-    /// The remnants below and above `by` along one attribute, in which the two share a value. Either may be absent.
-    fn cut_along(self, by: Bounds, axis: Axis) -> (Option<CellBox>, Option<CellBox>)
-        requires { shares (span_of axis self.bounds) (span_of axis by) ≡ true }
-        ensures first { bounds_of result.0 ≡ lower_of axis self.bounds by }
-        ensures second { bounds_of result.1 ≡ upper_of axis self.bounds by }
-    {
-        let whole = self.along(axis);
-        let taken = by.along(axis);
-        let lower = if whole.low < taken.low {
-            Some(self.with(
-                axis,
-                Span {
-                    low: whole.low,
-                    high: taken.low - 1,
-                },
-            ))
-        } else {
-            None
-        };
-        let upper = if taken.high < whole.high {
-            Some(self.with(
-                axis,
-                Span {
-                    low: taken.high + 1,
-                    high: whole.high,
-                },
-            ))
-        } else {
-            None
-        };
-        (lower, upper)
-    }
-
-    /// The box narrowed to `by` along one attribute, in which the two share a value.
-    fn narrow(self, by: Bounds, axis: Axis) -> CellBox
-        requires { shares (span_of axis self.bounds) (span_of axis by) ≡ true }
-        ensures value { result.bounds ≡ narrowed axis self.bounds by }
-    {
-        let whole = self.along(axis);
-        let taken = by.along(axis);
-        self.with(
-            axis,
-            Span {
-                low: whole.low.max(taken.low),
-                high: whole.high.min(taken.high),
-            },
-        )
-    }
-
-    /// Cuts along one attribute, in which the two share a value: the remnants go to `out`, and what they leave of the box
-    /// is given back.
-    fn cut_axis(self, by: Bounds, axis: Axis, out: &mut Pieces) -> Result<CellBox, TooManyPieces>
-        requires { shares (span_of axis self.bounds) (span_of axis by) ≡ true }
-        ensures after { Appended (pieces_of out.old) (remnants_along axis self.bounds by) (pieces_of out.new) (is_ok result) }
-        ensures ok { IfOk result (λ rest. rest.bounds ≡ narrowed axis self.bounds by) }
-    {
-        let (lower, upper) = self.cut_along(by, axis);
-        push_remnant(out, lower)?;
-        push_remnant(out, upper)?;
-        Ok(self.narrow(by, axis))
-    }
-
-    /// Cuts a box that meets `by` along one attribute after another; the remnants go to `out`, in the order found.
-    fn cut_axes(self, by: Bounds, order: &[Axis], out: &mut Pieces) -> Result<(), TooManyPieces>
-        requires { meet self.bounds by ≡ true }
-        ensures after { Appended (pieces_of out.old) (remnants order.now self.bounds by) (pieces_of out.new) (is_ok result) }
-    {
-        let mut piece = self;
-        for axis in order {
-            piece = piece.cut_axis(by, *axis, out)?;
-        }
-        Ok(())
-    }
-
     /// Adds to `out` what `by` leaves of the box, in order; refused where `out` would have more than 32 pieces, and the
     /// first 32 then stand.
     pub(crate) fn cut_into(self, by: Bounds, out: &mut Pieces) -> Result<(), TooManyPieces>
         ensures after { Appended (pieces_of out.old) (cut_of self.bounds by) (pieces_of out.new) (is_ok result) }
     {
         if self.bounds.meets(by) {
-            self.cut_axes(by, &CUT_ORDER, out)
+            Overlap { piece: self, by }.cut_axes(&CUT_ORDER, out)
         } else {
             out.push(self)
         }

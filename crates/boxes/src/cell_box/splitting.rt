@@ -13,10 +13,8 @@ impl Pieces {
         ensures value { pieces_given result ≡ unbroken (cut_all_in cut_order (pieces_of self.now) region) }
     {
         let mut pieces = Pieces::new();
-        let mut place = 0;
-        while let Some(piece) = self.get(place) {
+        for piece in self.as_slice() {
             piece.cut_into(region, &mut pieces)?;
-            place += 1;
         }
         Ok(pieces)
     }

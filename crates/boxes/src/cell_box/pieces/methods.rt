@@ -1,5 +1,5 @@
-ghost use Rattle.std.specs.Prelude.{◌≡◌, ◌<◌, [], ◌∷◌, length, is_ok, Some};
-ghost use Rattle.boxes.specs.Pieces.{bounds_of, pieces_of};
+ghost use Rattle.std.specs.Prelude.{◌≡◌, ◌<◌, ◌^◌, [], ◌∷◌, length, sum_by, is_ok, Some};
+ghost use Rattle.boxes.specs.Pieces.{bounds_of, box_cells, numbers_of, pieces_of};
 ghost use Rattle.boxes.specs.Plans.{plan_answer, plan_list};
 ghost use Rattle.boxes.specs.Splits.{Appended};
 ghost use Rattle.domain.specs.Cells.{total_cells};
@@ -15,7 +15,7 @@ impl Pieces {
         ensures value { pieces_of result ≡ [] }
     {
         Pieces {
-            boxes: [CellBox::whole().bounds; MAX_PIECES],
+            boxes: [CellBox::whole(); MAX_PIECES],
             len: 0,
         }
     }
@@ -25,7 +25,7 @@ impl Pieces {
         ensures value { pieces_of result ≡ piece.bounds ∷ [] }
     {
         Pieces {
-            boxes: [piece.bounds; MAX_PIECES],
+            boxes: [piece; MAX_PIECES],
             len: 1,
         }
     }
@@ -37,39 +37,37 @@ impl Pieces {
         if self.len == MAX_PIECES {
             return Err(TooManyPieces);
         }
-        self.boxes[self.len] = piece.bounds;
+        self.boxes[self.len] = piece;
         self.len += 1;
         Ok(())
+    }
+
+    /// The pieces, in order.
+    pub fn as_slice(&self) -> &[CellBox]
+        ensures value { numbers_of result.now ≡ pieces_of self.now }
+    {
+        &self.boxes[..self.len]
     }
 
     /// How many pieces there are.
     pub fn len(&self) -> usize
         ensures value { result ≡ length (pieces_of self.now) }
     {
-        let Pieces { len, .. } = self;
-        *len
+        self.as_slice().len()
     }
 
     /// The piece at a place, counted from 0.
     pub fn get(&self, place: usize) -> Option<CellBox>
         ensures value { bounds_of result ≡ slice_get (pieces_of self.now) place }
     {
-        if place < self.len {
-            Some(self.at(place))
-        } else {
-            None
-        }
+        self.as_slice().get(place).copied()
     }
 
     /// The cells of the pieces, added up.
     pub fn cells(&self) -> u32
         ensures value { result ≡ total_cells (pieces_of self.now) }
     {
-        let mut total = 0;
-        for place in 0..self.len {
-            total += self.at(place).cells();
-        }
-        total
+        total(self.as_slice())
     }
 
     /// Writes the pieces into the first places of a list and answers how many there are; refused, with nothing written,
@@ -81,17 +79,16 @@ impl Pieces {
         if list.len() < self.len {
             return Err(Refusal::ListTooShort);
         }
-        list[0..self.len].copy_from_slice(&self.boxes[0..self.len]);
+        let numbers = self.boxes.map(|piece| piece.bounds);
+        list[..self.len].copy_from_slice(&numbers[..self.len]);
         Ok(self.len)
     }
+}
 
-    /// The piece at a place in use.
-    fn at(&self, place: usize) -> CellBox
-        requires { place < self.now.len }
-        ensures value { Some result.bounds ≡ slice_get (pieces_of self.now) place }
-    {
-        CellBox {
-            bounds: self.boxes[place],
-        }
-    }
+/// The cells of some boxes, added up.
+fn total(boxes: &[CellBox]) -> u32
+    requires { sum_by box_cells boxes.now < 2 ^ 32 }
+    ensures value { result ≡ sum_by box_cells boxes.now }
+{
+    boxes.iter().map(|area| area.cells()).sum()
 }

@@ -1,7 +1,7 @@
 use Rattle.std.proofs.Common.{rules}
 use Rattle.std.proofs.lemmas.Result.{IfOk-from_err}
 use Rattle.boxes.proofs.Appending.{appended_then, appended_stop, appended_err, appended_named}
-use Rattle.boxes.proofs.cell_box.CellBox.cut_axis.Goals as goal
+use Rattle.boxes.proofs.cell_box.cutting.Overlap.cut_axis.Goals as goal
 
 pub returns-in_err-push_remnant : goal.returns-in_err-push_remnant
 returns-in_err-push_remnant c = record {
