@@ -4,7 +4,7 @@ use Rattle.std.proofs.lemmas.List.{ext_get_or, get_or-map, length-map, nil_from_
 use Rattle.std.proofs.lemmas.List.Sums.{sum_by-cons}
 use Rattle.boxes.specs.declared.cell_box.CellBox.{CellBox}
 use Rattle.domain.specs.Cells.{total_cells}
-use Rattle.boxes.specs.Pieces.{box_cells, numbers_of}
+use Rattle.boxes.specs.Pieces.{box_cells, bounds_of_each}
 use Rattle.boxes.proofs.Lawfulness.{cells_fit}
 
 -- a list that has f of each element at its place
@@ -16,11 +16,11 @@ mapped f (x ∷ xs) ys l h =
     let here : i < length (x ∷ xs) = omega (arith, l) in h i x (f x) here ∙ sym (get_or-map f (x ∷ xs) i x (f x) here))
 
 -- the cells of boxes, added up box by box
-pub cells_by_box : (bs : List CellBox) → sum_by box_cells bs ≡ total_cells (numbers_of bs)
+pub cells_by_box : (bs : List CellBox) → sum_by box_cells bs ≡ total_cells (bounds_of_each bs)
 cells_by_box [] = refl
 cells_by_box (b ∷ bs) = sum_by-cons box_cells b bs ∙ ap (λ n. box_cells b + n) (cells_by_box bs)
 
 -- each of them has no more cells than the domain
-pub cells_bounded : (bs : List CellBox) → total_cells (numbers_of bs) ≤ length bs * 17694720
+pub cells_bounded : (bs : List CellBox) → total_cells (bounds_of_each bs) ≤ length bs * 17694720
 cells_bounded [] = omega arith
 cells_bounded (b ∷ bs) = omega (arith, cells_bounded bs, cells_fit b.bounds b.ok)

@@ -1,5 +1,5 @@
 -- Cutting a piece by a box.
-use Rattle.std.specs.Prelude.{◌+◌, ◌-◌, min, max, cond, List, [], ◌∷◌, ◌++◌, Some, None, Option, nat_lt}
+use Rattle.std.specs.Prelude.{◌+◌, ◌-◌, min, max, if◌then◌else◌, List, [], ◌∷◌, ◌++◌, Some, None, Option, nat_lt}
 use Rattle.std.specs.Option.{option_map, option_to_list}
 use Rattle.std.specs.List.{ContainsAt as Has}
 use Rattle.domain.specs.declared.attributes.Axis.{Axis}
@@ -10,11 +10,11 @@ use Rattle.domain.specs.Attributes.{meet, span_of, with_span}
 
 -- what is left of a range below another one, if that begins above its beginning
 abbrev pub lower_span : Span → Span → Option Span
-lower_span p b = cond (nat_lt p.low b.low) (Some (record { low = p.low; high = b.low - 1 })) None
+lower_span p b = if nat_lt p.low b.low then Some (record { low = p.low; high = b.low - 1 }) else None
 
 -- what is left of a range above another one, if that ends below its end
 abbrev pub upper_span : Span → Span → Option Span
-upper_span p b = cond (nat_lt b.high p.high) (Some (record { low = b.high + 1; high = p.high })) None
+upper_span p b = if nat_lt b.high p.high then Some (record { low = b.high + 1; high = p.high }) else None
 
 -- a range narrowed to another one
 abbrev pub narrow_span : Span → Span → Span
@@ -43,7 +43,7 @@ remnants (a ∷ order) p b = remnants_along a p b ++ remnants order (narrowed a 
 
 -- what a cut along the attributes of a list leaves of a piece: the piece itself where the box does not meet it
 abbrev pub cut_in : List Axis → Bounds → Bounds → List Bounds
-cut_in order p b = cond (meet p b) (remnants order p b) (p ∷ [])
+cut_in order p b = if meet p b then remnants order p b else p ∷ []
 
 -- the attributes in the order of cutting
 abbrev pub cut_order : List Axis

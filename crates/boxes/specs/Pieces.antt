@@ -16,12 +16,12 @@ abbrev pub box_cells : CellBox → ℕ
 box_cells b = cells_of b.bounds
 
 -- the numbers of boxes, in order
-abbrev pub numbers_of : List CellBox → List Bounds
-numbers_of bs = map (λ (b : CellBox). b.bounds) bs
+abbrev pub bounds_of_each : List CellBox → List Bounds
+bounds_of_each bs = map (λ (b : CellBox). b.bounds) bs
 
 -- the pieces of a list, in order
 abbrev pub pieces_of : Pieces → List Bounds
-pieces_of p = numbers_of (take p.len p.boxes)
+pieces_of p = bounds_of_each (take p.len p.boxes)
 
 -- the pieces that a call gives, if it does not find too many
 abbrev pub pieces_given : {E : Type 0} → Result Pieces E → Option (List Bounds)

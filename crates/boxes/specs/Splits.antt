@@ -1,5 +1,5 @@
 -- Splitting a question by regions.
-use Rattle.std.specs.Prelude.{◌≡◌, ℕ, ◌≤◌, Bool, cond, List, [], ◌∷◌, ◌++◌, length, take, Some, None, Option, nat_le}
+use Rattle.std.specs.Prelude.{◌≡◌, ℕ, ◌≤◌, Bool, if◌then◌else◌, List, [], ◌∷◌, ◌++◌, length, take, Some, None, Option, option_and_then, nat_le}
 use Rattle.std.specs.List.{flat_map}
 use Rattle.domain.specs.declared.attributes.Axis.{Axis}
 use Rattle.domain.specs.declared.attributes.Bounds.{Bounds}
@@ -17,17 +17,12 @@ cut_all_in order ps r = flat_map (λ p. cut_in order p r) ps
 
 -- the pieces that stand after a region; None where they are too many
 abbrev pub unbroken : List Bounds → Option (List Bounds)
-unbroken ps = cond (nat_le (length ps) max_pieces) (Some ps) None
-
--- what may fail, and then what may fail
-abbrev pub and_then : {X Y : Type 0} → Option X → (X → Option Y) → Option Y
-and_then None next = None
-and_then (Some x) next = next x
+unbroken ps = if nat_le (length ps) max_pieces then Some ps else None
 
 -- the pieces after each region in turn has cut every one of them; None where too many stand after one of the regions
 abbrev pub split_from : List Axis → List Bounds → List Bounds → Option (List Bounds)
 split_from order ps [] = Some ps
-split_from order ps (r ∷ rs) = and_then (unbroken (cut_all_in order ps r)) (λ qs. split_from order qs rs)
+split_from order ps (r ∷ rs) = option_and_then (λ qs. split_from order qs rs) (unbroken (cut_all_in order ps r))
 
 -- SPLIT: the remainder boxes of a question, by regions in place order; None where the split is broken
 abbrev pub split_of : Bounds → List Bounds → Option (List Bounds)

@@ -1,4 +1,4 @@
-ghost use Rattle.std.specs.Prelude.{◌≡◌, ◌≤◌, true, is_ok, IfOk, Decides};
+ghost use Rattle.std.specs.Prelude.{◌↔◌, ◌≡◌, ◌≤◌, IfOk, IsOk, IsTrue};
 ghost use Rattle.domain.specs.Attributes.{Lawful, LawfulSpan, cells_of, limit_of, meet, refusal_of, span_of, whole_domain, width_of, with_span};
 ghost use Rattle.domain.specs.Cells.{ShareCell, count, holds};
 ghost use Rattle.std.specs.Result.{result_err};
@@ -23,7 +23,7 @@ impl CellBox {
     pub fn new(bounds: Bounds) -> Result<CellBox, Refusal>
         ensures refused { result_err result ≡ refusal_of bounds }
         ensures ok { IfOk result (λ b. b.bounds ≡ bounds) }
-        ensures succeeds { Lawful bounds → is_ok result ≡ true }
+        ensures succeeds { Lawful bounds → IsOk result }
     {
         bounds.check()?;
         Ok(CellBox { bounds })
@@ -68,7 +68,7 @@ impl CellBox {
     /// Do the two boxes share a cell?
     pub fn meets(self, other: CellBox) -> bool
         ensures value { result ≡ meet self.bounds other.bounds }
-        ensures cases { Decides result (ShareCell self.bounds other.bounds) }
+        ensures cases { IsTrue result ↔ ShareCell self.bounds other.bounds }
     {
         self.bounds.meets(other.bounds)
     }

@@ -1,5 +1,5 @@
 -- Ranges that have a value in common, and boxes that share a cell.
-use Rattle.std.proofs.Common.{◌≡◌, ℕ, max, Bool, true, ◌&&◌, Decides, arith}
+use Rattle.std.proofs.Common.{◌≡◌, ℕ, max, Bool, true, IsTrue, ◌&&◌, ◌↔◌, arith}
 use Rattle.std.proofs.lemmas.Bool.{and_from, and_parts}
 use Rattle.std.proofs.lemmas.Bool.Decides.{nat_tests}
 use Rattle.domain.specs.declared.attributes.Axis.{Axis}
@@ -48,5 +48,5 @@ shares_meet a b (c, e, f) =
     (within_shares a.band b.band c.band p.2 q.2)
 
 -- two boxes meet exactly when they share a cell
-pub meet_decides : (a b : Bounds) → Decides (meet a b) (ShareCell a b)
+pub meet_decides : (a b : Bounds) → IsTrue (meet a b) ↔ ShareCell a b
 meet_decides a b = (meet_shares a b, shares_meet a b)

@@ -1,5 +1,5 @@
 -- The three attributes, and the six plain numbers of a box: a closed range in each.
-use Rattle.std.specs.Prelude.{ℕ, ◌+◌, ◌-◌, ◌*◌, ◌<◌, ◌≤◌, min, max, Bool, true, cond, ◌&&◌, List, [], ◌∷◌, Some, None, Option, nat_le, nat_lt}
+use Rattle.std.specs.Prelude.{ℕ, ◌+◌, ◌-◌, ◌*◌, ◌<◌, ◌≤◌, min, max, Bool, if◌then◌else◌, ◌&&◌, Some, None, Option, nat_le, nat_lt}
 use Rattle.domain.specs.declared.attributes.Axis.{Axis}
 use Rattle.domain.specs.declared.attributes.Axis.TheVariants.{Birth, Service, Band}
 use Rattle.domain.specs.declared.attributes.Bounds.{Bounds}
@@ -56,7 +56,7 @@ all_in_order b = in_order b.birth && (in_order b.service && in_order b.band)
 
 -- why six numbers make no box: a number out of span is told before a lower end above its upper end
 abbrev pub refusal_of : Bounds → Option Refusal
-refusal_of b = cond (all_in_span b) (cond (all_in_order b) None (Some ReversedRange)) (Some InvalidRange)
+refusal_of b = if all_in_span b then (if all_in_order b then None else Some ReversedRange) else Some InvalidRange
 
 -- how many values a range has
 abbrev pub width_of : Span → ℕ

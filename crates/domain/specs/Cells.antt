@@ -1,5 +1,5 @@
 -- Cells: which box holds which, and how many there are.
-use Rattle.std.specs.Prelude.{◌≡◌, ℕ, zero, suc, ◌+◌, ◌≤◌, Bool, true, false, not, ◌&&◌, ◌||◌, List, [], ◌∷◌, nat_le}
+use Rattle.std.specs.Prelude.{◌≡◌, ℕ, zero, suc, ◌+◌, ◌≤◌, Bool, true, false, IsFalse, IsTrue, not, ◌&&◌, ◌||◌, List, [], ◌∷◌, nat_le}
 use Rattle.domain.specs.declared.attributes.Axis.TheVariants.{Birth, Service, Band}
 use Rattle.domain.specs.declared.attributes.Bounds.{Bounds}
 use Rattle.domain.specs.declared.attributes.Cell.{Cell}
@@ -16,11 +16,11 @@ holds b c = within b.birth c.birth && (within b.service c.service && within b.ba
 
 -- some cell lies in both boxes
 abbrev pub ShareCell : Bounds → Bounds → Type 0
-ShareCell a b = (c : Cell) × (holds a c ≡ true) × (holds b c ≡ true)
+ShareCell a b = (c : Cell) × IsTrue (holds a c) × IsTrue (holds b c)
 
 -- every cell of the second box lies in the first
 abbrev pub Covers : Bounds → Bounds → Type 0
-Covers a b = (c : Cell) → holds b c ≡ true → holds a c ≡ true
+Covers a b = (c : Cell) → IsTrue (holds b c) → IsTrue (holds a c)
 
 -- some box of the list holds the cell
 abbrev pub covered : List Bounds → Cell → Bool
@@ -72,4 +72,4 @@ Disjoint bs = (c : Cell) → holders bs c ≤ 1
 
 -- no cell lies both in a box of the one list and in a box of the other
 abbrev pub Apart : List Bounds → List Bounds → Type 0
-Apart xs ys = (c : Cell) → covered xs c ≡ true → covered ys c ≡ false
+Apart xs ys = (c : Cell) → IsTrue (covered xs c) → IsFalse (covered ys c)

@@ -1,4 +1,4 @@
-ghost use Rattle.std.specs.Prelude.{◌≡◌, Decides, OnOk};
+ghost use Rattle.std.specs.Prelude.{◌↔◌, ◌≡◌, IsTrue, OnOk};
 ghost use Rattle.domain.specs.Attributes.{Lawful, all_in_order, all_in_span, in_order, in_span, limit_of, meet, refusal_of, shares, span_of, with_span};
 ghost use Rattle.domain.specs.Cells.{ShareCell, holds, within};
 ghost use Rattle.std.specs.Result.{result_err};
@@ -139,7 +139,7 @@ impl Bounds {
     /// Is there a cell that lies in both?
     pub fn meets(self, other: Bounds) -> bool
         ensures value { result ≡ meet self other }
-        ensures cases { Decides result (ShareCell self other) }
+        ensures cases { IsTrue result ↔ ShareCell self other }
     {
         self.birth.meets(other.birth)
             && self.service.meets(other.service)

@@ -2,7 +2,7 @@
 use Rattle.std.proofs.Common.{◌≡◌, ℕ, ◌+◌, ◌-◌, ◌≤◌, min, max, true, List, [], ◌∷◌, ◌++◌, Some, None, refl, ap, ◌∙◌, inl, inr, arith}
 use Rattle.std.proofs.lemmas.Bool.{cases_Bool, cond-false, cond-true, le-ltb}
 use Rattle.std.proofs.lemmas.Bool.Decides.{nat_tests}
-use Rattle.std.specs.Option.{option_map, option_to_list}
+use Rattle.std.specs.Option.{option_and_then, option_map, option_to_list}
 use Rattle.domain.specs.declared.attributes.Axis.{Axis}
 use Rattle.domain.specs.declared.attributes.Axis.TheVariants.{Birth, Service, Band}
 use Rattle.domain.specs.declared.attributes.Bounds.{Bounds}
@@ -13,7 +13,7 @@ use Rattle.domain.specs.Cells.{Covers, ShareCell, holds, within}
 use Rattle.domain.proofs.Meeting.{meet_decides, three_from, three_parts}
 use Rattle.boxes.proofs.Narrowing.{same_span}
 use Rattle.boxes.specs.Cuts.{cut_of, cut_order, lower_span, narrow_span, narrowed, remnants, upper_span}
-use Rattle.boxes.specs.Splits.{and_then, split_of, unbroken}
+use Rattle.boxes.specs.Splits.{split_of, unbroken}
 use Rattle.worked.specs.Examples.{box, to}
 
 -- one cell
@@ -24,8 +24,8 @@ pub single_cell : (c : Cell) → cells_of (box (to c.birth c.birth) (to c.servic
 single_cell c = simp one_wide
 
 -- a split by one region is a cut
-by_one : (q r : Bounds) (ps : List Bounds) → cut_of q r ≡ ps → split_of q (r ∷ []) ≡ and_then (unbroken (ps ++ [])) Some
-by_one q r ps e = ap (λ qs. and_then (unbroken (qs ++ [])) Some) e
+by_one : (q r : Bounds) (ps : List Bounds) → cut_of q r ≡ ps → split_of q (r ∷ []) ≡ option_and_then Some (unbroken (ps ++ []))
+by_one q r ps e = ap (λ qs. option_and_then Some (unbroken (qs ++ []))) e
 
 pub apart_leaves : (q r : Bounds) → (ShareCell q r → ⊥) → split_of q (r ∷ []) ≡ Some (q ∷ [])
 apart_leaves q r h = elim (cases_Bool (meet q r)) [

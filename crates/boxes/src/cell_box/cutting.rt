@@ -1,4 +1,4 @@
-ghost use Rattle.std.specs.Prelude.{◌≡◌, true, [], ◌∷◌, is_ok, IfOk};
+ghost use Rattle.std.specs.Prelude.{◌≡◌, [], ◌∷◌, is_ok, IfOk, IsTrue};
 ghost use Rattle.domain.specs.Attributes.{meet};
 ghost use Rattle.boxes.specs.Cuts.{Complete, cut_of, cut_order, lower_of, narrowed, remnants, remnants_along, upper_of};
 ghost use Rattle.boxes.specs.Pieces.{bounds_of, pieces_of};
@@ -26,7 +26,7 @@ pub fn cut_order() -> [Axis; 3]
 struct Overlap {
     piece: CellBox,
     by: Bounds,
-    ghost meets: { meet piece.bounds by ≡ true },
+    ghost meets: { IsTrue (meet piece.bounds by) },
 }
 
 impl Overlap {

@@ -1,5 +1,5 @@
 ghost use Rattle.std.specs.Prelude.{◌≡◌, ◌<◌, ◌^◌, [], ◌∷◌, length, sum_by, is_ok, Some};
-ghost use Rattle.boxes.specs.Pieces.{bounds_of, box_cells, numbers_of, pieces_of};
+ghost use Rattle.boxes.specs.Pieces.{bounds_of, box_cells, bounds_of_each, pieces_of};
 ghost use Rattle.boxes.specs.Plans.{plan_answer, plan_list};
 ghost use Rattle.boxes.specs.Splits.{Appended};
 ghost use Rattle.domain.specs.Cells.{total_cells};
@@ -44,7 +44,7 @@ impl Pieces {
 
     /// The pieces, in order.
     pub fn as_slice(&self) -> &[CellBox]
-        ensures value { numbers_of result.now ≡ pieces_of self.now }
+        ensures value { bounds_of_each result.now ≡ pieces_of self.now }
     {
         &self.boxes[..self.len]
     }

@@ -3,17 +3,17 @@ use Rattle.std.proofs.lemmas.List.{at_drop_more, at_drop_all}
 use Rattle.domain.specs.declared.attributes.Bounds.{Bounds}
 use Rattle.boxes.specs.declared.cell_box.CellBox.{CellBox}
 use Rattle.boxes.specs.Cuts.{cut_of, cut_order}
-use Rattle.boxes.specs.Pieces.{numbers_of, pieces_of}
+use Rattle.boxes.specs.Pieces.{bounds_of_each, pieces_of}
 use Rattle.boxes.specs.Splits.{Appended, cut_all_in}
 use Rattle.boxes.proofs.Appending.{leads_more, leads_stop, leads_end, appended_broken, appended_unbroken, given_err, pieces_fit}
 use Rattle.boxes.proofs.cell_box.pieces.Pieces.cut_by.Goals as goal
 
 -- what the region leaves of the pieces that are left, by what it leaves of the next one
 next : (bs : List CellBox) (i : ℕ) (b : CellBox) (r : Bounds) → i < length bs → b ≡ get_or bs i b
-    → cut_all_in cut_order (numbers_of (drop i bs)) r ≡ cut_of b.bounds r ++ cut_all_in cut_order (numbers_of (drop (i + 1) bs)) r
+    → cut_all_in cut_order (bounds_of_each (drop i bs)) r ≡ cut_of b.bounds r ++ cut_all_in cut_order (bounds_of_each (drop (i + 1) bs)) r
 next bs i b r here is =
-    at_drop_more (λ ps. cut_all_in cut_order (numbers_of ps) r) bs i b here
-    ∙ ap (λ p. cut_of p.bounds r ++ cut_all_in cut_order (numbers_of (drop (i + 1) bs)) r) (sym is)
+    at_drop_more (λ ps. cut_all_in cut_order (bounds_of_each ps) r) bs i b here
+    ∙ ap (λ p. cut_of p.bounds r ++ cut_all_in cut_order (bounds_of_each (drop (i + 1) bs)) r) (sym is)
 
 pub loop-piece-init : goal.loop-piece-init
 loop-piece-init c =
@@ -42,6 +42,6 @@ returns c = record {
   value =
       appended_unbroken _ (pieces_of c.loop-piece.pieces)
       (leads_end _ _ _ _ c.loop-piece.invariant
-      (at_drop_all (λ bs. cut_all_in cut_order (numbers_of bs) c.args.region) c.as_slice-piece-items.result.now c.loop-piece.piece-index c.loop-piece-test.false)
+      (at_drop_all (λ bs. cut_all_in cut_order (bounds_of_each bs) c.args.region) c.as_slice-piece-items.result.now c.loop-piece.piece-index c.loop-piece-test.false)
       (pieces_fit c.loop-piece.pieces));
 }

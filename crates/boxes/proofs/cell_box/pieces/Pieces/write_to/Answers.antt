@@ -3,7 +3,7 @@ use Rattle.std.proofs.lemmas.List.{take-map}
 use Rattle.std.proofs.lemmas.Bool.{cond-true, le-leb}
 use Rattle.domain.specs.declared.attributes.Bounds.{Bounds}
 use Rattle.boxes.specs.declared.cell_box.CellBox.{CellBox}
-use Rattle.boxes.specs.Pieces.{numbers_of, pieces_of}
+use Rattle.boxes.specs.Pieces.{bounds_of_each, pieces_of}
 use Rattle.boxes.proofs.Appending.{pieces_length}
 use Rattle.boxes.proofs.Places.{mapped}
 use Rattle.boxes.proofs.cell_box.pieces.Pieces.write_to.Goals as goal
@@ -12,7 +12,7 @@ use Rattle.boxes.proofs.cell_box.pieces.Pieces.write_to.Goals as goal
 each : (c : goal.After-list-1) (i : ℕ) (d : CellBox) (e : Bounds) → i < 32 → get_or c.map-numbers.result i e ≡ (get_or c.args.self.now.boxes i d).bounds
 each c i d e h = let call = c.map-numbers.ensures.items.at i d e h in search rules
 
-all : (c : goal.After-list-1) → c.map-numbers.result ≡ numbers_of c.args.self.now.boxes
+all : (c : goal.After-list-1) → c.map-numbers.result ≡ bounds_of_each c.args.self.now.boxes
 all c =
     let whole : length c.args.self.now.boxes ≡ 32 = c.args.self.now.places in
     mapped (λ (b : CellBox). b.bounds) c.args.self.now.boxes c.map-numbers.result (c.map-numbers.ensures.items.long ∙ sym whole) (λ i d e h. each c i d e (omega (arith, whole)))
