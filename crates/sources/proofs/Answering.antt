@@ -19,10 +19,10 @@ answered_front found before = whole (leb (length found) (length before))
     whole true = take_at found (drop (length found) before) (length found) refl
     whole false = tt
 
--- which, of a sound source, are those of the relation that lie in the box, each once
-pub answered_selected : (sound : Type 0) (relation : List Record) (b : Bounds) (before : List Record) (r : Result ℕ Refusal) (after : List Record)
-    → sound → LawfulRelation relation → Answers sound relation b before r after → IfOk r (λ k. Selected b relation (take k after))
-answered_selected sound relation b before r after s l a =
-    let selected : Selected b relation a.found = (selection_laws.each_once b relation a.found l).0 (a.selects s) in
+-- which are those of the relation that lie in the box, each once
+pub answered_selected : (relation : List Record) (b : Bounds) (before : List Record) (r : Result ℕ Refusal) (after : List Record)
+    → LawfulRelation relation → Answers relation b before r after → IfOk r (λ k. Selected b relation (take k after))
+answered_selected relation b before r after l a =
+    let selected : Selected b relation a.found = (selection_laws.each_once b relation a.found l).0 a.selects in
     let front = IfOk-weaker (answer_of a.found (length before)) _ _ (λ k e. subst (Selected b relation) (sym e) selected) (answered_front a.found before) in
     rw (a.value, a.buffer) front

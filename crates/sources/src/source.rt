@@ -14,8 +14,9 @@ use domain::Refusal;
 /// Anything that answers questions about a list of records, and charges for the cells that it consults.
 ///
 /// Whoever builds on sources, as a cache does, is proved from this page alone and holds for every source. To write one,
-/// give the five ghost members and the two calls, and prove the clauses. And let whatever makes the source promise that
-/// what it makes is `sound`: of a state that is not, a question promises nothing about which records are answered.
+/// give the four ghost members and the two calls, and prove the clauses. They are promised in every state of the type:
+/// what has to be true of a state belongs into the invariant of the type. A source over another one says there what ties
+/// the two, by the ghost members of its parameter, as in `struct Over<S: Source> { below: S, ghost ok: { .. S.relation below .. } }`.
 pub trait Source {
     /// The records that the source has. No call changes them.
     ghost relation: { Self → List Member };
@@ -23,13 +24,8 @@ pub trait Source {
     /// What the source has charged.
     ghost meter: { Self → ℕ };
 
-    /// The states in which a question is promised to answer exactly the records of the relation in its area: those that
-    /// the source is made in, and that its own calls lead to. Where the invariant of the type says enough, that is every
-    /// state, `λ _. Unit {0}`. A source over another one says here that the other is sound, and what ties the two.
-    ghost sound: { Self → Type 0 };
-
-    /// A sound source has lawful records: none twice, every number at least 1, every attribute in its span.
-    ghost lawful: { (s : Self) → sound s → LawfulRelation (relation s) };
+    /// A source has lawful records: none twice, every number at least 1, every attribute in its span.
+    ghost lawful: { (s : Self) → LawfulRelation (relation s) };
 
     /// All that a question does: the state and the area, the buffer before, the answer, the buffer after, the state
     /// after. To generic code it is opaque, so the order of an answer is free there, and nothing else is. Over a known
@@ -40,14 +36,10 @@ pub trait Source {
     /// answer is k, the first k places hold these records, each once, and the others are untouched. If it has fewer,
     /// the question is refused with `BufferTooShort`, and every place is blank. Either way the meter rises by the cells
     /// of the area, and stops at its end.
-    ///
-    /// That the records are those of the relation in the area is promised in a sound state, and a sound state stays
-    /// sound. All the rest is promised in every state.
     fn query(&mut self, area: CellBox, out: &mut [Record]) -> Result<usize, Refusal>
-        ensures answers { Answers (sound self.old) (relation self.old) area.bounds out.old result out.new }
+        ensures answers { Answers (relation self.old) area.bounds out.old result out.new }
         ensures charge { meter self.new ≡ raised_by (meter self.old) (cells_of area.bounds) }
         ensures same_relation { relation self.new ≡ relation self.old }
-        ensures stays_sound { sound self.old → sound self.new }
         ensures steps { steps self.old area.bounds out.old result out.new self.new };
 
     /// Reads the meter.

@@ -29,15 +29,13 @@ impl<'a> Table<'a> {
     }
 }
 
-/// A table is sound in every state, since its type keeps that its records make a collection.
+/// The type keeps that the records make a collection, so they are lawful.
 impl<'a> Source for Table<'a> {
     ghost relation = { λ t. t.records.now };
 
     ghost meter = { λ t. t.meter.reading };
 
-    ghost sound = { λ _. Unit {0} };
-
-    ghost lawful = { λ t _. collection_lawful t.records.now t.collection };
+    ghost lawful = { λ t. collection_lawful t.records.now t.collection };
 
     ghost steps = { TableSteps };
 

@@ -23,6 +23,6 @@ returns c =
       after = ◌∙◌ {b = buffer_of (selection b given) before} known.steps.buffer (ap (λ rs. buffer_of (selection b rs) before) is);
       selected =
           subst (λ rs. IfOk c.query-answer.result (λ k. Selected b rs (take k c.query-answer.new.out))) is
-          (answered_selected _ given b before _ _ tt (subst LawfulRelation (sym is) (collection_of_lawful c.args.records.now)) known.answers);
+          (answered_selected given b before _ _ (subst LawfulRelation (sym is) (collection_of_lawful c.args.records.now)) known.answers);
       charge = cells ∙ sym (cells_of_box b c.args.area.ok);
     }

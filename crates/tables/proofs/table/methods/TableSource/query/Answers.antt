@@ -9,10 +9,9 @@ returns c =
     let t = c.args.self.now in
     let found = selection c.args.area.bounds t.records.now in
     record {
-      answers = record { found = found; value = c.select.ensures.value; buffer = c.select.ensures.after; selects = λ _. same_refl found };
+      answers = record { found = found; value = c.select.ensures.value; buffer = c.select.ensures.after; selects = same_refl found };
       charge = c.charge.ensures.after;
       same_relation = refl;
-      stays_sound = λ s. s;
       steps = record {
         value = c.select.ensures.value;
         buffer = c.select.ensures.after;
