@@ -1,7 +1,8 @@
 -- Sums over the domain: the cells of a box are a count.
 use Rattle.std.proofs.Common.{◌≡◌, ℕ, zero, suc, ◌+◌, ◌-◌, ◌*◌, ◌<◌, ◌≤◌, min, Bool, true, false, ◌&&◌, List, [], ◌∷◌, sym, refl, ap, ◌∙◌, mul_assoc, mul-zero, mul-add, arith}
 use Rattle.std.proofs.lemmas.Bool.Decides.{nat_tests}
-use Rattle.std.specs.List.{AllByRecursion as All}
+use Rattle.std.specs.List.{All}
+use Rattle.std.proofs.lemmas.List.Elements.{All-head, All-tail}
 use Rattle.domain.specs.declared.attributes.Bounds.{Bounds}
 use Rattle.domain.specs.declared.attributes.Cell.{Cell}
 use Rattle.domain.specs.declared.attributes.Span.{Span}
@@ -99,6 +100,6 @@ cells_of_box b l =
 pub cells_of_all : (bs : List Bounds) → All Lawful bs → total_cells bs ≡ sum_cells (holders bs)
 cells_of_all [] l = sym cells_zero
 cells_of_all (b ∷ bs) l =
-    ap (λ n. n + total_cells bs) (sym (cells_of_box b l.0))
-    ∙ (ap (λ n. count (holds b) + n) (cells_of_all bs l.1)
+    ap (λ n. n + total_cells bs) (sym (cells_of_box b (All-head Lawful b bs l)))
+    ∙ (ap (λ n. count (holds b) + n) (cells_of_all bs (All-tail Lawful b bs l))
     ∙ sym (cells_add (λ c. indicator (holds b c)) (holders bs)))

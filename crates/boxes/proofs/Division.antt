@@ -3,7 +3,7 @@ use Rattle.std.proofs.Common.{◌≡◌, ℕ, zero, suc, ◌+◌, ◌*◌, Bool,
 use Rattle.std.proofs.lemmas.Bool.{cases_Bool, cond-true, cond-false, true≢false}
 use Rattle.std.proofs.lemmas.Bool.Decides.{nat_tests}
 use Rattle.std.specs.Option.{option_map, option_to_list}
-use Rattle.std.specs.List.{ContainsAt as Has}
+use Rattle.std.specs.List.{Contains}
 use Rattle.domain.specs.declared.attributes.Axis.{Axis}
 use Rattle.domain.specs.declared.attributes.Axis.TheVariants.{Birth, Service, Band}
 use Rattle.domain.specs.declared.attributes.Bounds.{Bounds}
@@ -147,10 +147,10 @@ core_inside [] k p b h x = h x
 core_inside (a ∷ order) k p b h x = core_inside order k (narrowed a p b) b (inside_stays a k p b h) x ∙ both_narrowed a k p b x
 
 -- an attribute that has its turn is narrowed to what the two have in common
-core_within : (order : List Axis) (k : Axis) → Has order k → (p b : Bounds) (x : ℕ) → within (span_of k (core order p b)) x ≡ both (span_of k p) (span_of k b) x
+core_within : (order : List Axis) (k : Axis) → Contains order k → (p b : Bounds) (x : ℕ) → within (span_of k (core order p b)) x ≡ both (span_of k p) (span_of k b) x
 core_within [] k (i, h, is) p b x = absurd (not-suc-le-zero h)
 core_within (a ∷ order) k (zero, h, is) p b x =
-    ap (λ o. within (span_of k (core order (narrowed o p b) b)) x) (is k)
+    ap (λ o. within (span_of k (core order (narrowed o p b) b)) x) is
     ∙ (core_inside order k (narrowed k p b) b (λ y. subst (λ s. within s y ≡ both s (span_of k b) y) (sym (own_range k p b)) (within_narrow (span_of k p) (span_of k b) y)) x
     ∙ both_narrowed k k p b x)
 core_within (a ∷ order) k (suc i, h, is) p b x = core_within order k (i, le_of_suc-le-suc h, is) (narrowed a p b) b x ∙ both_narrowed a k p b x
@@ -231,9 +231,9 @@ pub split_divides_in_any_order : DividesInAnyOrder
 split_divides_in_any_order order all q rs ps e c = split_from_divides order all (q ∷ []) rs ps c e ∙ of_one (holds q c) (covered rs c)
 
 pub cut_order_complete : Complete cut_order
-cut_order_complete Birth = (0, omega arith, λ d. refl)
-cut_order_complete Service = (1, omega arith, λ d. refl)
-cut_order_complete Band = (2, omega arith, λ d. refl)
+cut_order_complete Birth = (0, omega arith, refl)
+cut_order_complete Service = (1, omega arith, refl)
+cut_order_complete Band = (2, omega arith, refl)
 
 -- the remainder boxes of a question divide its missing cells
 pub split_divides : (q : Bounds) (rs ps : List Bounds) → split_of q rs ≡ Some ps → Divides ps (missing q rs)

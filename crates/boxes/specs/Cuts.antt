@@ -1,7 +1,6 @@
 -- Cutting a piece by a box.
-use Rattle.std.specs.Prelude.{◌+◌, ◌-◌, min, max, if◌then◌else◌, List, [], ◌∷◌, ◌++◌, Some, None, Option, nat_lt}
+use Rattle.std.specs.Prelude.{◌+◌, ◌-◌, min, max, if◌then◌else◌, List, [], ◌∷◌, ◌++◌, Some, None, Option, Contains, nat_lt}
 use Rattle.std.specs.Option.{option_map, option_to_list}
-use Rattle.std.specs.List.{ContainsAt as Has}
 use Rattle.domain.specs.declared.attributes.Axis.{Axis}
 use Rattle.domain.specs.declared.attributes.Axis.TheVariants.{Birth, Service, Band}
 use Rattle.domain.specs.declared.attributes.Bounds.{Bounds}
@@ -54,4 +53,4 @@ cut_of p b = cut_in cut_order p b
 
 -- every attribute stands in the list
 abbrev pub Complete : List Axis → Type 0
-Complete order = (a : Axis) → Has order a
+Complete order = (a : Axis) → Contains order a
