@@ -1,5 +1,6 @@
 -- The pieces of a cut, and of a split, hold each cell that is left exactly once: for every order of the attributes.
 use Rattle.std.proofs.Common.{◌≡◌, ℕ, zero, suc, ◌+◌, ◌*◌, Bool, true, false, cond, not, ◌&&◌, ◌||◌, leb, ◌⊎◌, List, [], ◌∷◌, ◌++◌, length, Some, None, Option, sym, refl, ap, ◌∙◌, subst, inl, inr, le_of_suc-le-suc, not-suc-le-zero, add-zero, add-mul, zero-add, zero-mul, arith}
+use Rattle.std.proofs.Math.Bool.{or-false}
 use Rattle.std.proofs.lemmas.Bool.{cases_Bool, cond-true, cond-false, true≢false}
 use Rattle.std.proofs.lemmas.Bool.Decides.{nat_tests}
 use Rattle.std.specs.Option.{option_map, option_to_list}
@@ -240,9 +241,5 @@ pub split_divides : (q : Bounds) (rs ps : List Bounds) → split_of q rs ≡ Som
 split_divides q rs ps e = split_divides_in_any_order cut_order cut_order_complete q rs ps e
 
 -- so does a cut: it is a split by one region
-or_false : (y : Bool) → (y || false) ≡ y
-or_false true = refl
-or_false false = refl
-
 pub cut_divides_missing : (p b : Bounds) → Divides (cut_of p b) (missing p (b ∷ []))
-cut_divides_missing p b c = cut_divides cut_order cut_order_complete p b c ∙ ap (λ y. indicator (holds p c && not y)) (sym (or_false (holds b c)))
+cut_divides_missing p b c = cut_divides cut_order cut_order_complete p b c ∙ ap (λ y. indicator (holds p c && not y)) (sym (or-false (holds b c)))
