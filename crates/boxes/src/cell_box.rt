@@ -8,6 +8,7 @@ use domain::{Axis, Bounds, Cell, Refusal, Span};
 pub mod cutting;
 pub mod pieces;
 pub mod planning;
+pub mod printing;
 pub mod splitting;
 
 /// A box: a closed range in each attribute, every lower end at or below its upper end and both in the span of the

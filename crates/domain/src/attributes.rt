@@ -1,9 +1,11 @@
-ghost use Rattle.std.specs.Prelude.{◌↔◌, ◌≡◌, IsTrue, OnOk};
+ghost use Rattle.std.specs.Prelude.{◌↔◌, ◌≡◌, IsTrue, OnOk, Some};
 ghost use Rattle.domain.specs.Attributes.{Lawful, all_in_order, all_in_span, in_order, in_span, limit_of, meet, refusal_of, shares, span_of, with_span};
 ghost use Rattle.domain.specs.Cells.{ShareCell, holds, within};
+ghost use Rattle.domain.specs.Text.{numbers_text};
 ghost use Rattle.std.specs.Result.{result_err};
 
 use crate::refusals::Refusal;
+use std::fmt;
 
 /// One of the three attributes of a member.
 #[derive(Clone, Copy, PartialEq, Eq, Debug)]
@@ -80,6 +82,15 @@ impl Span {
         ensures value { result ≡ in_order self }
     {
         self.low <= self.high
+    }
+}
+
+/// The range as the course writes it: its two ends, joined by two full stops.
+impl fmt::Display for Span {
+    ghost output = { λ s. Some (numbers_text s) };
+
+    fn fmt<W: fmt::Write>(&self, f: &mut fmt::Formatter<W>) -> fmt::Result {
+        write!(f, "{}..{}", self.low, self.high)
     }
 }
 

@@ -1,5 +1,8 @@
 ghost use Rattle.std.specs.Prelude.{◌≡◌, IfSome, Some};
 ghost use Rattle.domain.specs.Calendar.{rank_of, month_of};
+ghost use Rattle.domain.specs.Text.{year_month_text};
+
+use std::fmt;
 
 /// A month of a year, counted from 1. Any two numbers make one; those from January 1900 to December 2027 have a rank.
 #[derive(Clone, Copy, PartialEq, Eq, Debug)]
@@ -34,5 +37,16 @@ impl YearMonth {
         } else {
             None
         }
+    }
+}
+
+/// The month as the course writes it: a year, a hyphen and a month of two digits.
+impl fmt::Display for YearMonth {
+    ghost output = { λ m. Some (year_month_text m) };
+
+    #[tactic(auto, using(crate::proofs::TwoDigits::two_digits))]
+    fn fmt<W: fmt::Write>(&self, f: &mut fmt::Formatter<W>) -> fmt::Result {
+        let YearMonth { year, month } = *self;
+        write!(f, "{year}-{month:02}")
     }
 }

@@ -1,7 +1,10 @@
--- Six numbers, read one by one.
-use Rattle.std.proofs.Common.{◌≡◌, ℕ, ◌*◌, ◌<◌, List, [], ◌∷◌, ◌++◌, length, get_or, sym, refl, ap, ◌∙◌, arith, length-append}
+-- Six numbers, read one by one, and numbers read in sixes.
+use Rattle.std.proofs.Common.{◌≡◌, ℕ, zero, suc, ◌*◌, ◌%◌, ◌<◌, List, [], ◌∷◌, ◌++◌, length, get_or, take, drop, flat_map, map, refl, sym, ap, ◌∙◌, arith, length-drop, take-append-drop}
+use Rattle.std.proofs.lemmas.List.{nil_from_length}
+use Rattle.std.proofs.lemmas.List.Folds.{flat_map-map}
+use Rattle.std.specs.Simd.{first_chunks}
 use Rattle.domain.specs.declared.attributes.Bounds.{Bounds}
-use Rattle.exercise.specs.Words.{NoBoxes, numbers_of}
+use Rattle.exercise.specs.Words.{NoBoxes, numbers_of, six_of}
 
 pub six_numbers : (xs : List ℕ) → length xs ≡ 6 → get_or xs 0 0 ∷ get_or xs 1 0 ∷ get_or xs 2 0 ∷ get_or xs 3 0 ∷ get_or xs 4 0 ∷ get_or xs 5 0 ∷ [] ≡ xs
 six_numbers [] h = absurd (omega arith)
@@ -13,11 +16,18 @@ six_numbers (a ∷ b ∷ c ∷ d ∷ e ∷ []) h = absurd (omega arith)
 six_numbers (a ∷ b ∷ c ∷ d ∷ e ∷ f ∷ []) h = refl
 six_numbers (a ∷ b ∷ c ∷ d ∷ e ∷ f ∷ g ∷ xs) h = absurd (omega arith)
 
-pub numbers_length : (bs : List Bounds) → length (numbers_of bs) ≡ 6 * length bs
+numbers_length : (bs : List Bounds) → length (numbers_of bs) ≡ 6 * length bs
 numbers_length [] = refl
 numbers_length (b ∷ bs) = omega (arith, numbers_length bs)
 
--- numbers with fewer than six left over are not those of any boxes
-pub left_over : (so_far : List Bounds) (left numbers : List ℕ) → numbers_of so_far ++ left ≡ numbers → 0 < length left → length left < 6 → NoBoxes numbers
-left_over so_far left numbers e some few bs h =
-    omega (arith, ap length (h ∙ sym e), length-append (numbers_of so_far) left, numbers_length bs, numbers_length so_far)
+-- numbers with some left over are not those of any boxes
+pub left_over : (numbers : List ℕ) → 0 < length numbers % 6 → NoBoxes numbers
+left_over numbers some bs h = omega (arith, ap length h, numbers_length bs)
+
+sixes_joined : (k : ℕ) (xs : List ℕ) → length xs ≡ 6 * k → flat_map (λ six. six) (first_chunks 6 k xs) ≡ xs
+sixes_joined zero xs h = sym (nil_from_length xs h)
+sixes_joined (suc k) xs h = ap (λ ys. take 6 xs ++ ys) (sixes_joined k (drop 6 xs) (omega (arith, length-drop 6 xs))) ∙ take-append-drop 6 xs
+
+-- boxes that are made of the sixes of numbers have these numbers
+pub numbers_of_sixes : (bs : List Bounds) (k : ℕ) (xs : List ℕ) → length xs ≡ 6 * k → map six_of bs ≡ first_chunks 6 k xs → numbers_of bs ≡ xs
+numbers_of_sixes bs k xs h e = sym (flat_map-map (λ six. six) six_of bs) ∙ (ap (flat_map (λ six. six)) e ∙ sixes_joined k xs h)

@@ -1,3 +1,2 @@
 pub mod Statements
-pub mod Text
 pub mod Words

@@ -5,22 +5,17 @@
 
 #![tactic(auto)]
 
-ghost use Rattle.std.specs.Prelude.{◌≡◌};
-ghost use Rattle.std.specs.Result.{result_ok};
-
 use crate::statement::{Statement, state};
-use crate::text::box_text;
 use crate::words::{bounds_of, regions_of};
 use anyhow::anyhow;
 use boxes::{CellBox, Pieces};
 use domain::{Bounds, Refusal};
-use std::alloc::Global;
-use std::env;
+use std::error::Error;
 use std::process::ExitCode;
+use std::{env, fmt};
 use worked::worked_examples;
 
 mod statement;
-mod text;
 mod words;
 
 fn main(rt: HostRuntime) -> ExitCode {
@@ -63,18 +58,17 @@ fn numbers_given(rt: &HostRuntime) -> anyhow::Result<Vec<u16>> {
 
 /// Prints the question, the regions and the statement.
 fn work(rt: &HostRuntime, question: Bounds, regions: &[Bounds]) -> anyhow::Result<()> {
-    let heap = rt.alloc();
-    let question = told(heap, CellBox::new(question))?;
-    println!(rt; "question: {}", box_text(heap, question)?)?;
+    let question = CellBox::new(question).map_err(Refused)?;
+    println!(rt; "question: {question}")?;
     for (place, numbers) in regions.iter().enumerate() {
-        let region = told(heap, CellBox::new(*numbers))?;
-        println!(rt; "region {place}: {}", box_text(heap, region)?)?;
+        let region = CellBox::new(*numbers).map_err(Refused)?;
+        println!(rt; "region {place}: {region}")?;
     }
     let Statement {
         pieces,
         charge,
         saved,
-    } = told(heap, state(question, regions))?;
+    } = state(question, regions).map_err(Refused)?;
     println!(rt; "remainder {}", pieces.len())?;
     print_pieces(rt, &pieces)?;
     println!(rt; "charge {charge}")?;
@@ -84,20 +78,21 @@ fn work(rt: &HostRuntime, question: Bounds, regions: &[Bounds]) -> anyhow::Resul
 
 /// Prints the remainder boxes, a line each.
 fn print_pieces(rt: &HostRuntime, pieces: &Pieces) -> anyhow::Result<()> {
-    let mut place = 0;
-    while let Some(piece) = pieces.get(place) {
-        println!(rt; "  {}", box_text(rt.alloc(), piece)?)?;
-        place += 1;
+    for piece in pieces.as_slice() {
+        println!(rt; "  {piece}")?;
     }
     Ok(())
 }
 
-/// A refusal, told with its number.
-fn told<T>(heap: Global, outcome: Result<T, Refusal>) -> anyhow::Result<T>
-    ensures value { result_ok result ≡ result_ok outcome }
-{
-    match outcome {
-        Ok(value) => Ok(value),
-        Err(refusal) => Err(anyhow!(format!(in heap; "refused {}: {refusal}", refusal.number())?)),
+/// A refusal as the program tells it: by its number, before its sentence.
+#[derive(Clone, Copy, Debug)]
+struct Refused(Refusal);
+
+/// The line that is told.
+impl fmt::Display for Refused {
+    fn fmt<W: fmt::Write>(&self, f: &mut fmt::Formatter<W>) -> fmt::Result {
+        write!(f, "refused {}: {}", self.0.number(), self.0)
     }
 }
+
+impl Error for Refused {}

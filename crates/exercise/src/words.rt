@@ -20,14 +20,9 @@ pub fn bounds_of(six: &[u16; 6]) -> Bounds
 pub fn regions_of(heap: Global, numbers: &[u16]) -> Result<Option<Vec<Bounds>>, AllocError>
     ensures made { IfOk result (λ o. MatchOption o (NoBoxes numbers.now) (λ regions. numbers_of regions.items ≡ numbers.now)) }
 {
-    let mut regions = Vec::new(heap);
-    let mut left = numbers;
-    while let Some((six, rest)) = left.split_first_chunk::<6>() {
-        regions.push(bounds_of(six))?;
-        left = rest;
-    }
+    let (sixes, left) = numbers.as_chunks::<6>();
     if !left.is_empty() {
         return Ok(None);
     }
-    Ok(Some(regions))
+    Ok(Some(sixes.iter().map(bounds_of).collect(heap)?))
 }

@@ -1,26 +1,24 @@
--- Months and boxes as the course writes them.
-use Rattle.std.specs.Prelude.{ℕ, ◌/◌, ◌%◌, List, [], ◌++◌, Some, None, codes, decimal, Option}
+-- Boxes as the course writes them.
+use Rattle.std.specs.Prelude.{ℕ, List, [], ◌++◌, Some, None, codes, decimal, Option}
 use Rattle.domain.specs.declared.attributes.Bounds.{Bounds}
 use Rattle.domain.specs.declared.attributes.Span.{Span}
 use Rattle.domain.specs.declared.calendar.YearMonth.{YearMonth}
 use Rattle.domain.specs.Attributes.{cells_of}
 use Rattle.domain.specs.Calendar.{month_of}
+use Rattle.domain.specs.Text.{year_month_text, numbers_text}
 
--- a year of four digits, a hyphen and a month of two; nothing where there is no month
+-- a month, and nothing where there is none
 abbrev pub text_of : Option YearMonth → List ℕ
 text_of None = []
-text_of (Some m) = decimal m.year ++ (codes "-" ++ (decimal (m.month / 10) ++ decimal (m.month % 10)))
+text_of (Some m) = year_month_text m
 
 -- the month of a birth rank
 abbrev pub month_text : ℕ → List ℕ
 month_text rank = text_of (month_of rank)
 
--- two ends, joined by two full stops
+-- two months, joined by two full stops
 abbrev pub months_text : Span → List ℕ
 months_text s = month_text s.low ++ (codes ".." ++ month_text s.high)
-
-abbrev pub numbers_text : Span → List ℕ
-numbers_text s = decimal s.low ++ (codes ".." ++ decimal s.high)
 
 -- a box by its three ranges, with its cells
 abbrev pub box_line : List ℕ → List ℕ → List ℕ → ℕ → List ℕ
