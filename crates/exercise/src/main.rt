@@ -88,7 +88,7 @@ fn print_pieces(rt: &HostRuntime, pieces: &Pieces) -> anyhow::Result<()> {
 #[derive(Clone, Copy, Debug)]
 struct Refused(Refusal);
 
-/// The line that is told.
+/// The line that is told. By hand, since `thiserror` takes no call such as `number()` among a message's arguments.
 impl fmt::Display for Refused {
     fn fmt<W: fmt::Write>(&self, f: &mut fmt::Formatter<W>) -> fmt::Result {
         write!(f, "refused {}: {}", self.0.number(), self.0)

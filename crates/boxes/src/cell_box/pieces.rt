@@ -2,6 +2,7 @@ ghost use Rattle.std.specs.Prelude.{◌≡◌, ◌≤◌, length};
 ghost use Rattle.boxes.specs.Splits.{max_pieces};
 
 use crate::cell_box::CellBox;
+use thiserror::Error;
 
 pub mod methods;
 
@@ -18,5 +19,6 @@ pub struct Pieces {
 }
 
 /// There is no room for more than 32 pieces.
-#[derive(Clone, Copy, Debug)]
+#[derive(Clone, Copy, PartialEq, Eq, Debug, Error)]
+#[error("there is no room for more than 32 pieces")]
 pub struct TooManyPieces;
