@@ -1,20 +1,10 @@
--- Six numbers, read one by one, and numbers read in sixes.
-use Rattle.std.proofs.Common.{◌≡◌, ℕ, zero, suc, ◌*◌, ◌%◌, ◌<◌, List, [], ◌∷◌, ◌++◌, length, get_or, take, drop, flat_map, map, refl, sym, ap, ◌∙◌, arith, length-drop, take-append-drop}
+-- Numbers read in sixes.
+use Rattle.std.proofs.Common.{◌≡◌, ℕ, zero, suc, ◌*◌, ◌%◌, ◌<◌, List, [], ◌∷◌, ◌++◌, length, take, drop, flat_map, map, refl, sym, ap, ◌∙◌, arith, length-drop, take-append-drop}
 use Rattle.std.proofs.lemmas.List.{nil_from_length}
 use Rattle.std.proofs.lemmas.List.Folds.{flat_map-map}
 use Rattle.std.specs.Simd.{first_chunks}
 use Rattle.domain.specs.declared.attributes.Bounds.{Bounds}
 use Rattle.exercise.specs.Words.{NoBoxes, numbers_of, six_of}
-
-pub six_numbers : (xs : List ℕ) → length xs ≡ 6 → get_or xs 0 0 ∷ get_or xs 1 0 ∷ get_or xs 2 0 ∷ get_or xs 3 0 ∷ get_or xs 4 0 ∷ get_or xs 5 0 ∷ [] ≡ xs
-six_numbers [] h = absurd (omega arith)
-six_numbers (a ∷ []) h = absurd (omega arith)
-six_numbers (a ∷ b ∷ []) h = absurd (omega arith)
-six_numbers (a ∷ b ∷ c ∷ []) h = absurd (omega arith)
-six_numbers (a ∷ b ∷ c ∷ d ∷ []) h = absurd (omega arith)
-six_numbers (a ∷ b ∷ c ∷ d ∷ e ∷ []) h = absurd (omega arith)
-six_numbers (a ∷ b ∷ c ∷ d ∷ e ∷ f ∷ []) h = refl
-six_numbers (a ∷ b ∷ c ∷ d ∷ e ∷ f ∷ g ∷ xs) h = absurd (omega arith)
 
 numbers_length : (bs : List Bounds) → length (numbers_of bs) ≡ 6 * length bs
 numbers_length [] = refl
