@@ -1,15 +1,16 @@
 -- Lists that have the same records.
-use Rattle.std.proofs.Common.{◌≡◌, ℕ, ◌+◌, ◌*◌, ◌<◌, ◌≤◌, Bool, true, false, cond, ◌&&◌, eqb, ◌≢◌, ◌↔◌, List, [], ◌∷◌, ◌++◌, length, Decides, sum_by, count_by, filter, sym, refl, ap, ◌∙◌, inl, inr, mul-zero, mul-add, arith}
-use Rattle.std.proofs.lemmas.List.Elements.{All-contains, Contains-from_at}
+use Rattle.std.proofs.Common.{◌≡◌, ℕ, ◌+◌, ◌*◌, ◌<◌, ◌≤◌, Bool, true, false, cond, ◌&&◌, eqb, ◌≢◌, ◌↔◌, List, [], ◌∷◌, ◌++◌, length, Contains, Decides, sum_by, count_by, filter, sym, refl, ap, ◌∙◌, mul-zero, mul-add, arith}
+use Rattle.std.proofs.lemmas.List.Elements.{All-contains}
+use Rattle.std.proofs.lemmas.List.Kept.{AllPairs-filter}
 use Rattle.std.proofs.lemmas.List.Sums.{sum_by-append, sum_by-cons}
-use Rattle.std.proofs.lemmas.Bool.{and_from, cases_lt}
+use Rattle.std.proofs.lemmas.Bool.{and_from}
 use Rattle.std.proofs.lemmas.Bool.Decides.{Decides-and, Decides-eqb, Decides-like}
-use Rattle.std.specs.List.{ContainsAt as Has, flat_map}
+use Rattle.std.specs.List.{flat_map}
 use Rattle.domain.specs.declared.attributes.Bounds.{Bounds}
 use Rattle.domain.specs.declared.attributes.Cell.{Cell}
 use Rattle.domain.specs.Cells.{Divides, holders, indicator}
 use Rattle.sources.proofs.Counts.{count_from_has, count_kept, counts_distinct, counts_same, distinct_counts, has_counts, has_from_count, mark, sum_by_both, sum_by_none, sum_by_same}
-use Rattle.sources.proofs.Members.{kept_has, pairwise_kept}
+use Rattle.sources.proofs.Members.{kept_has}
 use Rattle.sources.specs.declared.record.Record.{Record}
 use Rattle.sources.specs.Pairs.{Distinct}
 use Rattle.sources.specs.Records.{LawfulRecord, blank, cell_of, inside}
@@ -67,17 +68,17 @@ fields_decide x y =
     (Decides-and _ _ (Decides-eqb _ _) (Decides-eqb _ _)))))
 
 -- so what is counted stands in a list, what stands there is counted, and what stands there once is counted once
-stands : (rs : List Record) (r : Record) → 0 < count_by (fields r) rs → Has rs r
+stands : (rs : List Record) (r : Record) → 0 < count_by (fields r) rs → Contains rs r
 stands rs r h = has_from_count fields fields_decide rs r h
 
-counted : (rs : List Record) (r : Record) → Has rs r → 0 < count_by (fields r) rs
+counted : (rs : List Record) (r : Record) → Contains rs r → 0 < count_by (fields r) rs
 counted rs r h = count_from_has fields fields_decide rs r h
 
 counted_once : (rs : List Record) → Distinct rs → (r : Record) → count_by (fields r) rs ≤ 1
 counted_once rs apart r = distinct_counts fields fields_decide rs apart r
 
 -- a record stands in a selection exactly if it is in the list and in the box
-selection_has : (b : Bounds) (rs : List Record) (r : Record) → Has (selection b rs) r ↔ (Has rs r × (inside b r ≡ true))
+selection_has : (b : Bounds) (rs : List Record) (r : Record) → Contains (selection b rs) r ↔ (Contains rs r × (inside b r ≡ true))
 unfolding selection
 selection_has b rs r = (
   kept_has (inside b) rs r,
@@ -90,14 +91,11 @@ selection_has b rs r = (
 
 selection_distinct : (b : Bounds) (rs : List Record) → Distinct rs → Distinct (selection b rs)
 unfolding selection
-selection_distinct b rs apart = pairwise_kept (λ x y. x ≢ y) (inside b) rs apart
+selection_distinct b rs apart = AllPairs-filter (λ x y. x ≢ y) (inside b) rs apart
 
 -- two numbers up to 1 that are above 0 together
 zero_or_one : (m n : ℕ) → m ≤ 1 → n ≤ 1 → (0 < m → 0 < n) → (0 < n → 0 < m) → m ≡ n
-zero_or_one m n a b to from = elim (cases_lt 0 m) [
-  | inl h ↦ omega (arith, to h)
-  | inr h ↦ elim (cases_lt 0 n) [ inl k ↦ omega (arith, from k) | inr k ↦ omega arith ]
-]
+zero_or_one m n a b to from = grind arith
 
 module _ (b : Bounds) (relation answer : List Record) (l : LawfulRelation relation) where
   selected_from_same : SameRecords answer (selection b relation) → Selected b relation answer
@@ -167,5 +165,5 @@ selection_laws = record {
   counted = same_length;
   appended = same_append;
   filtered = same_kept;
-  never_blank = λ relation l h. omega (arith, (All-contains LawfulRecord relation blank l.members (Contains-from_at relation blank h)).0);
+  never_blank = λ relation l h. omega (arith, (All-contains LawfulRecord relation blank l.members h).0);
 }
