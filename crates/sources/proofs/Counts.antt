@@ -1,8 +1,8 @@
 -- How many items of a list pass a test, and which items stand in it: over any type.
-use Rattle.std.proofs.Common.{◌≡◌, ℕ, ◌+◌, ◌<◌, ◌≤◌, Bool, true, false, cond, ◌&&◌, ◌≢◌, List, [], ◌∷◌, Contains, Decides, sum_by, count_by, filter, sym, refl, ap, ◌∙◌, subst, inl, inr, arith}
+use Rattle.std.proofs.Common.{◌≡◌, ℕ, ◌+◌, ◌<◌, ◌≤◌, Bool, true, cond, ◌&&◌, ◌≢◌, List, [], ◌∷◌, Contains, Decides, sum_by, count_by, filter, sym, refl, ap, ◌∙◌, subst, inl, inr, arith}
 use Rattle.std.proofs.lemmas.List.Elements.{All-contains, Contains-get_or}
 use Rattle.std.proofs.lemmas.List.Kept.{AllPairs-cons}
-use Rattle.std.proofs.lemmas.List.Sums.{get_or-le-sum_by, length-filter, sum_by-cons, sum_by-le, sum_by-le-sum_by, sum_by-remove}
+use Rattle.std.proofs.lemmas.List.Sums.{get_or-le-sum_by, length-filter, sum_by-cons, sum_by-le-sum_by, sum_by-remove}
 use Rattle.std.proofs.lemmas.Bool.{cases_Bool}
 use Rattle.std.specs.List.{remove}
 use Rattle.sources.proofs.Members.{has_first, has_some, kept_has, pairs_head, pairs_none, pairs_tail}
@@ -13,12 +13,6 @@ abbrev pub mark : {X : Type 0} → (X → Bool) → X → ℕ
 mark p x = cond (p x) 1 0
 
 module _ {X : Type 0} where
-  pub mark_yes : (p : X → Bool) (x : X) → p x ≡ true → mark p x ≡ 1
-  mark_yes p x e = ap (λ t. cond t 1 0) e
-
-  pub mark_no : (p : X → Bool) (x : X) → p x ≡ false → mark p x ≡ 0
-  mark_no p x e = ap (λ t. cond t 1 0) e
-
   -- the sum over a list of sums
   pub sum_by_both : (f g : X → ℕ) (xs : List X) → sum_by (λ x. f x + g x) xs ≡ sum_by f xs + sum_by g xs
   sum_by_both f g [] = refl
@@ -28,24 +22,15 @@ module _ {X : Type 0} where
   pub sum_by_same : (f g : X → ℕ) → ((x : X) → f x ≡ g x) → (xs : List X) → sum_by f xs ≡ sum_by g xs
   sum_by_same f g e xs = omega (arith, sum_by-le-sum_by f g xs (λ x. omega (arith, e x)), sum_by-le-sum_by g f xs (λ x. omega (arith, e x)))
 
-  pub sum_by_none : (xs : List X) → sum_by (λ x. 0) xs ≡ 0
-  sum_by_none xs = omega (arith, sum_by-le (λ (x : X). 0) 0 xs (λ k d h. omega arith))
-
   -- what passes p of what passes q
   pub count_kept : (q p : X → Bool) (xs : List X) → count_by p (filter q xs) ≡ count_by (λ x. q x && p x) xs
   count_kept q p [] = refl
   count_kept q p (x ∷ xs) =
-      let rest = count_kept q p xs in
-      let both = sum_by-cons (mark (λ y. q y && p y)) x xs in
-      let whole : (t : Bool) → q x ≡ t → count_by p (cond t (x ∷ filter q xs) (filter q xs)) ≡ count_by (λ y. q y && p y) (x ∷ xs) = elim [
-        | true ↦ λ e. omega (arith, sum_by-cons (mark p) x (filter q xs), rest, both, ap (λ t. mark (λ y. t && p y) x) e)
-        | false ↦ λ e. omega (arith, rest, both, ap (λ t. mark (λ y. t && p y) x) e)
-      ] in
-      whole (q x) refl
+      grind (arith, cases_Bool (q x), sum_by-cons (mark p) x (filter q xs), count_kept q p xs, sum_by-cons (mark (λ y. q y && p y)) x xs)
 
   -- what stands in a list and passes is counted, and what is counted stands there and passes
   pub has_counts : (p : X → Bool) (xs : List X) (x : X) → Contains xs x → p x ≡ true → 0 < count_by p xs
-  has_counts p xs x (k, h, at) e = omega (arith, get_or-le-sum_by (mark p) xs k x h, mark_yes p _ (ap p at ∙ e))
+  has_counts p xs x (k, h, at) e = grind (arith, get_or-le-sum_by (mark p) xs k x h)
 
   pub counts_has : (p : X → Bool) (xs : List X) → 0 < count_by p xs → (x : X) × Contains xs x × (p x ≡ true)
   counts_has p xs h =
@@ -71,16 +56,15 @@ module _ {X : Type 0} (same : X → X → Bool) (decides : (x y : X) → Decides
       elim (cases_Bool (same x y)) [
         | inl e ↦
             let again : 0 < count_by (same x) ys → ⊥ = λ h. All-contains (λ z. y ≢ z) ys x (pairs_head (λ a b. a ≢ b) y ys apart) (has_from_count ys x h) (sym ((decides x y).0 e)) in
-            omega (arith, whole, mark_yes (same x) y e, again)
-        | inr e ↦ omega (arith, whole, mark_no (same x) y e, distinct_counts ys (pairs_tail (λ a b. a ≢ b) y ys apart) x)
+            grind (arith, whole, again)
+        | inr e ↦ grind (arith, whole, distinct_counts ys (pairs_tail (λ a b. a ≢ b) y ys apart) x)
       ]
 
   pub counts_distinct : (xs : List X) → ((x : X) → count_by (same x) xs ≤ 1) → Distinct xs
   counts_distinct [] few = pairs_none (λ a b. a ≢ b)
   counts_distinct (y ∷ ys) few =
-      let here : mark (same y) y ≡ 1 = mark_yes (same y) y ((decides y y).1 refl) in
       AllPairs-cons (λ a b. a ≢ b) y ys
-      (λ k d h e. omega (arith, few y, sum_by-cons (mark (same y)) y ys, here, count_from_has ys y (subst (Contains ys) (sym e) (Contains-get_or ys k d h))))
+      (λ k d h e. grind (arith, few y, sum_by-cons (mark (same y)) y ys, (decides y y).1 refl, count_from_has ys y (subst (Contains ys) (sym e) (Contains-get_or ys k d h))))
       (counts_distinct ys (λ x. omega (arith, few x, sum_by-cons (mark (same x)) y ys)))
 
   -- lists that have each item as often pass every test as often

@@ -1,15 +1,15 @@
 -- Lists that have the same records.
-use Rattle.std.proofs.Common.{◌≡◌, ℕ, ◌+◌, ◌*◌, ◌<◌, ◌≤◌, Bool, true, false, cond, ◌&&◌, eqb, ◌≢◌, ◌↔◌, List, [], ◌∷◌, ◌++◌, length, Contains, Decides, sum_by, count_by, filter, sym, refl, ap, ◌∙◌, mul-zero, mul-add, arith}
+use Rattle.std.proofs.Common.{◌≡◌, ℕ, ◌+◌, ◌*◌, ◌<◌, ◌≤◌, Bool, true, cond, ◌&&◌, eqb, ◌≢◌, ◌↔◌, List, [], ◌∷◌, ◌++◌, length, Contains, Decides, sum_by, count_by, filter, sym, refl, ap, ◌∙◌, mul-add, arith}
 use Rattle.std.proofs.lemmas.List.Elements.{All-contains}
 use Rattle.std.proofs.lemmas.List.Kept.{AllPairs-filter}
-use Rattle.std.proofs.lemmas.List.Sums.{sum_by-append, sum_by-cons}
-use Rattle.std.proofs.lemmas.Bool.{and_from}
+use Rattle.std.proofs.lemmas.List.Sums.{sum_by-append, sum_by-cons, sum_by-le}
+use Rattle.std.proofs.lemmas.Bool.{cases_Bool, and_from}
 use Rattle.std.proofs.lemmas.Bool.Decides.{Decides-and, Decides-eqb, Decides-like}
 use Rattle.std.specs.List.{flat_map}
 use Rattle.domain.specs.declared.attributes.Bounds.{Bounds}
 use Rattle.domain.specs.declared.attributes.Cell.{Cell}
 use Rattle.domain.specs.Cells.{Divides, holders, indicator}
-use Rattle.sources.proofs.Counts.{count_from_has, count_kept, counts_distinct, counts_same, distinct_counts, has_counts, has_from_count, mark, sum_by_both, sum_by_none, sum_by_same}
+use Rattle.sources.proofs.Counts.{count_from_has, count_kept, counts_distinct, counts_same, distinct_counts, has_counts, has_from_count, mark, sum_by_both, sum_by_same}
 use Rattle.sources.proofs.Members.{kept_has}
 use Rattle.sources.specs.declared.record.Record.{Record}
 use Rattle.sources.specs.Pairs.{Distinct}
@@ -124,10 +124,7 @@ module _ (b : Bounds) (relation answer : List Record) (l : LawfulRelation relati
 
 -- what passes a test of what another test keeps, as a sum over the whole list
 both_marks : (s t : Bool) → cond (s && t) 1 0 ≡ cond t 1 0 * indicator s
-both_marks true true = refl
-both_marks true false = refl
-both_marks false true = refl
-both_marks false false = refl
+both_marks s t = grind (arith, cases_Bool s, cases_Bool t)
 
 kept_sum : (p q : Record → Bool) (rs : List Record) → count_by p (filter q rs) ≡ sum_by (λ r. mark p r * indicator (q r)) rs
 kept_sum p q rs = count_kept q p rs ∙ sum_by_same (mark (λ r. q r && p r)) (λ r. mark p r * indicator (q r)) (λ r. both_marks (q r) (p r)) rs
@@ -135,7 +132,7 @@ kept_sum p q rs = count_kept q p rs ∙ sum_by_same (mark (λ r. q r && p r)) (�
 -- what passes a test of the selections by some boxes: each record as often as boxes hold its cell
 joined_sum : (p : Record → Bool) (bs : List Bounds) (rs : List Record) → count_by p (flat_map (λ b. selection b rs) bs) ≡ sum_by (λ r. mark p r * holders bs (cell_of r)) rs
 unfolding selection
-joined_sum p [] rs = sym (sum_by_same (λ r. mark p r * 0) (λ r. 0) (λ r. mul-zero (mark p r)) rs ∙ sum_by_none rs)
+joined_sum p [] rs = omega (arith, sum_by-le (λ r. mark p r * 0) 0 rs (λ k d h. omega arith))
 joined_sum p (b ∷ bs) rs =
     let first : Record → ℕ = λ r. mark p r * indicator (inside b r) in
     let later : Record → ℕ = λ r. mark p r * holders bs (cell_of r) in
