@@ -1,7 +1,7 @@
 -- A buffer that is filled from the front with the records of a selection.
-use Rattle.std.proofs.Common.{Bor, Iter, Bool, ◌≡◌, ℕ, ◌+◌, ◌<◌, ◌≤◌, List, [], ◌∷◌, ◌++◌, length, drop, set, replicate, Ok, Err, sym, ap, ◌∙◌, subst, arith}
+use Rattle.std.proofs.Common.{Bor, Iter, Bool, ◌≡◌, ℕ, ◌+◌, ◌<◌, ◌≤◌, List, [], ◌∷◌, ◌++◌, length, drop, set, replicate, Ok, Err, sym, arith}
 use Rattle.std.proofs.lemmas.List.{append_assoc, drop_more, length_push, set_at}
-use Rattle.std.proofs.lemmas.Bool.{cond-false, cond-true, le-leb, lt-leb}
+use Rattle.std.proofs.lemmas.Bool.Decides.{nat_tests}
 use Rattle.std.proofs.lemmas.Fn.{fronts}
 use Rattle.std.proofs.lemmas.Iterator.{YieldsList, YieldsList-from_slice}
 use Rattle.std.proofs.lemmas.Iterator.Consumers.{YieldsList-at, YieldsList-from_filter}
@@ -36,13 +36,11 @@ filled_more {found} {before} {out} {count} x f room =
 
 -- the answer and the buffer, where all that is to be found is found
 pub filled_all : {found all before out : List Record} {count : ℕ} → Filled found before out count → found ≡ all → (Ok count ≡ answer_of all (length before)) × (out ≡ buffer_of all before)
-filled_all {found} {all} {before} {out} {count} f whole =
-    let g = subst (λ rs. Filled rs before out count) whole f in
-    (ap Ok g.counted ∙ sym (cond-true _ _ _ (le-leb _ _ g.fits)), g.places ∙ sym (cond-true _ _ _ (le-leb _ _ g.fits)))
+filled_all f whole = (grind (arith, nat_tests), grind (arith, nat_tests))
 
 -- and where there are more records than places
 pub overfull : (found before : List Record) (n : ℕ) → n ≡ length before → length before < length found → (Err BufferTooShort ≡ answer_of found (length before)) × (replicate n blank ≡ buffer_of found before)
-overfull found before n long over = (sym (cond-false _ _ _ (lt-leb _ _ over)), ap (λ k. replicate k blank) long ∙ sym (cond-false _ _ _ (lt-leb _ _ over)))
+overfull found before n long over = (grind (arith, nat_tests), grind (arith, nat_tests))
 
 -- the chain that `select` goes over gives the records of the selection
 pub chosen_gives : {F : Type 0} {s : Filter (Iter Record) F} {from : Iter Record} {f : F} (g : Mut F (Bor (Bor Record) × Unit {0}) Bool) (b : Bounds) (rs : List Record)

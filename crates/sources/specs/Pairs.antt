@@ -1,4 +1,4 @@
--- Lists of which something is said of every two items.
+-- Lists in which no item stands twice.
 use Rattle.std.specs.Prelude.{◌≢◌, List, AllPairs}
 
 -- no item stands twice

@@ -43,24 +43,21 @@ impl Region {
     pub fn area(self) -> CellBox
         ensures value { result.bounds ≡ (plain_of self).bounds }
     {
-        let Region { area, .. } = self;
-        area
+        self.area
     }
 
     /// The number of the last question that met it.
     pub fn stamp(self) -> u32
         ensures value { result ≡ (plain_of self).stamp }
     {
-        let Region { stamp, .. } = self;
-        stamp
+        self.stamp
     }
 
     /// How many records lie in it.
     pub fn count(self) -> usize
         ensures value { result ≡ (plain_of self).count }
     {
-        let Region { count, .. } = self;
-        count
+        self.count
     }
 }
 
