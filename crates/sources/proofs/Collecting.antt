@@ -1,14 +1,14 @@
 -- What makes a collection: one test after another, and in plain words.
-use Rattle.std.proofs.Common.{◌≡◌, ℕ, ◌<◌, true, ltb, leb, List, [], ◌∷◌, length, All, Decides, refl, ap, arith}
-use Rattle.std.proofs.lemmas.Bool.{and_from, and_parts, cond_both, le-leb, leb-true, lt-ltb, ltb-true}
+use Rattle.std.proofs.Common.{◌≡◌, ℕ, ◌<◌, true, List, [], ◌∷◌, All, Decides, refl, ap, arith}
+use Rattle.std.proofs.lemmas.Bool.{cond_both}
+use Rattle.std.proofs.lemmas.Bool.Decides.{nat_tests}
 use Rattle.std.proofs.lemmas.List.Elements.{All-nil, All-cons, All-head, All-tail, All-weaker}
 use Rattle.std.proofs.lemmas.List.Kept.{AllPairs-cons, AllPairs-filter}
 use Rattle.domain.specs.declared.attributes.Bounds.{Bounds}
-use Rattle.domain.specs.Attributes.{whole_domain}
 use Rattle.sources.proofs.Members.{pairs_head, pairs_none, pairs_tail}
 use Rattle.sources.specs.declared.record.Record.{Record}
-use Rattle.sources.specs.Collections.{Collection, Rising, collection_of, follow_on, is_collection, max_records, may_follow}
-use Rattle.sources.specs.Records.{LawfulRecord, inside, is_lawful_record}
+use Rattle.sources.specs.Collections.{Collection, Rising, collection_of, follow_on, is_collection}
+use Rattle.sources.specs.Records.{LawfulRecord, inside}
 use Rattle.sources.specs.Selections.{LawfulRelation, selection}
 
 -- the number of the record is above n
@@ -21,11 +21,7 @@ Below r s = r.number < s.number
 
 -- the tests that the first record passes
 first : (n : ℕ) (r : Record) (rs : List Record) → follow_on n (r ∷ rs) ≡ true → (n < r.number) × LawfulRecord r × (follow_on r.number rs ≡ true)
-first n r rs e =
-    let p = and_parts (may_follow n r) (follow_on r.number rs) e in
-    let q = and_parts (ltb n r.number) (is_lawful_record r) p.0 in
-    let s = and_parts (leb 1 r.number) (inside whole_domain r) q.1 in
-    (ltb-true _ _ q.0, (leb-true _ _ s.0, s.1), p.1)
+first n r rs e = (grind (arith, nat_tests), (grind (arith, nat_tests), grind (arith, nat_tests)), grind (arith, nat_tests))
 
 above : (n : ℕ) (rs : List Record) → follow_on n rs ≡ true → All (Above n) rs
 above n [] e = All-nil (Above n)
@@ -42,22 +38,21 @@ lawful_members n [] e = All-nil LawfulRecord
 lawful_members n (r ∷ rs) e = let p = first n r rs e in All-cons LawfulRecord r rs p.1 (lawful_members r.number rs p.2)
 
 collection_from_test : (rs : List Record) → is_collection rs ≡ true → Collection rs
-collection_from_test rs e =
-    let p = and_parts (leb (length rs) max_records) (follow_on 0 rs) e in
-    record { few = leb-true _ _ p.0; rises = rising 0 rs p.1; members = lawful_members 0 rs p.1 }
+collection_from_test rs e = record { few = grind (arith, nat_tests); rises = rising 0 rs (grind (arith, nat_tests)); members = lawful_members 0 rs (grind (arith, nat_tests)) }
 
 -- and the other way round: records that rise pass one test after another
 following : (n : ℕ) (rs : List Record) → All (Above n) rs → Rising rs → All LawfulRecord rs → follow_on n rs ≡ true
 following n [] low up members = refl
 following n (r ∷ rs) low up members =
-    let member : LawfulRecord r = All-head LawfulRecord r rs members in
-    and_from _ _
-    (and_from _ _ (lt-ltb _ _ (All-head (Above n) r rs low)) (and_from _ _ (le-leb _ _ member.0) member.1))
-    (following r.number rs (pairs_head Below r rs up) (pairs_tail Below r rs up) (All-tail LawfulRecord r rs members))
+    let here = All-head (Above n) r rs low in
+    let member = All-head LawfulRecord r rs members in
+    let rest = following r.number rs (pairs_head Below r rs up) (pairs_tail Below r rs up) (All-tail LawfulRecord r rs members) in
+    grind (arith, nat_tests)
 
 test_from_collection : (rs : List Record) → Collection rs → is_collection rs ≡ true
 test_from_collection rs c =
-    and_from _ _ (le-leb _ _ c.few) (following 0 rs (All-weaker LawfulRecord (Above 0) (λ r h. h.0) rs c.members) c.rises c.members)
+    let all = following 0 rs (All-weaker LawfulRecord (Above 0) (λ r h. h.0) rs c.members) c.rises c.members in
+    grind (arith, nat_tests)
 
 pub collection_decides : (rs : List Record) → Decides (is_collection rs) (Collection rs)
 collection_decides rs = (collection_from_test rs, test_from_collection rs)
