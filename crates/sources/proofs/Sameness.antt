@@ -4,7 +4,7 @@ use Rattle.std.proofs.lemmas.List.Elements.{All-contains}
 use Rattle.std.proofs.lemmas.List.Kept.{AllPairs-filter}
 use Rattle.std.proofs.lemmas.List.Sums.{sum_by-append, sum_by-cons, sum_by-le}
 use Rattle.std.proofs.lemmas.Bool.{cases_Bool, and_from}
-use Rattle.std.proofs.lemmas.Bool.Decides.{Decides-and, Decides-eqb, Decides-like}
+use Rattle.std.proofs.lemmas.Bool.Decides.{nat_tests}
 use Rattle.std.specs.List.{flat_map}
 use Rattle.domain.specs.declared.attributes.Bounds.{Bounds}
 use Rattle.domain.specs.declared.attributes.Cell.{Cell}
@@ -58,14 +58,7 @@ fields x y =
 
 fields_decide : (x y : Record) → Decides (fields x y) (x ≡ y)
 unfolding fields
-fields_decide x y =
-    Decides-like (fields x y)
-    (λ (a, (b, (c, (d, e)))) i. record { number = a i; birth = b i; service = c i; band = d i; pension = e i })
-    (λ e. (λ i. (e i).number, (λ i. (e i).birth, (λ i. (e i).service, (λ i. (e i).band, λ i. (e i).pension)))))
-    (Decides-and _ _ (Decides-eqb _ _)
-    (Decides-and _ _ (Decides-eqb _ _)
-    (Decides-and _ _ (Decides-eqb _ _)
-    (Decides-and _ _ (Decides-eqb _ _) (Decides-eqb _ _)))))
+fields_decide x y = (λ e. grind (arith, nat_tests), λ e. grind (arith, nat_tests))
 
 -- so what is counted stands in a list, what stands there is counted, and what stands there once is counted once
 stands : (rs : List Record) (r : Record) → 0 < count_by (fields r) rs → Contains rs r
