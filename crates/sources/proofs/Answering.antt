@@ -1,23 +1,19 @@
 -- What the front of the buffer holds, where a question is answered.
-use Rattle.std.proofs.Common.{◌≡◌, ℕ, Bool, true, false, cond, leb, List, ◌++◌, length, take, drop, replicate, IfOk, Ok, Err, Result, sym, refl, subst}
+use Rattle.std.proofs.Common.{◌≡◌, ℕ, leb, List, length, take, drop, IfOk, Result, sym, refl, subst, arith}
+use Rattle.std.proofs.lemmas.Bool.{cases_Bool}
+use Rattle.std.proofs.lemmas.Bool.Decides.{nat_tests}
 use Rattle.std.proofs.lemmas.List.{take_at}
 use Rattle.std.proofs.lemmas.Result.{IfOk-weaker}
 use Rattle.domain.specs.declared.attributes.Bounds.{Bounds}
 use Rattle.domain.specs.declared.refusals.Refusal.{Refusal}
-use Rattle.domain.specs.declared.refusals.Refusal.TheVariants.{BufferTooShort}
 use Rattle.sources.proofs.Sameness.{selection_laws}
 use Rattle.sources.specs.declared.record.Record.{Record}
 use Rattle.sources.specs.Answers.{Answers, answer_of, buffer_of}
-use Rattle.sources.specs.Records.{blank}
 use Rattle.sources.specs.Selections.{LawfulRelation, Selected}
 
 -- the records found
 pub answered_front : (found before : List Record) → IfOk (answer_of found (length before)) (λ k. take k (buffer_of found before) ≡ found)
-answered_front found before = whole (leb (length found) (length before))
-  where
-    whole : (t : Bool) → IfOk (cond t (Ok (length found)) (Err BufferTooShort)) (λ k. take k (cond t (found ++ drop (length found) before) (replicate (length before) blank)) ≡ found)
-    whole true = take_at found (drop (length found) before) (length found) refl
-    whole false = tt
+answered_front found before = grind (arith, nat_tests, cases_Bool (leb (length found) (length before)), take_at found (drop (length found) before) (length found) refl)
 
 -- which are those of the relation that lie in the box, each once
 pub answered_selected : (relation : List Record) (b : Bounds) (before : List Record) (r : Result ℕ Refusal) (after : List Record)

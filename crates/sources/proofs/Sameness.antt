@@ -1,15 +1,16 @@
 -- Lists that have the same records.
-use Rattle.std.proofs.Common.{◌≡◌, ℕ, ◌+◌, ◌*◌, ◌<◌, ◌≤◌, Bool, true, false, cond, ◌&&◌, eqb, ◌≢◌, ◌↔◌, List, [], ◌∷◌, ◌++◌, length, Decides, sum_by, count_by, filter, sym, refl, ap, ◌∙◌, inl, inr, mul-zero, mul-add, arith}
-use Rattle.std.proofs.lemmas.List.Elements.{All-contains, Contains-from_at}
-use Rattle.std.proofs.lemmas.List.Sums.{sum_by-append, sum_by-cons}
-use Rattle.std.proofs.lemmas.Bool.{and_from, cases_lt}
-use Rattle.std.proofs.lemmas.Bool.Decides.{Decides-and, Decides-eqb, Decides-like}
-use Rattle.std.specs.List.{ContainsAt as Has, flat_map}
+use Rattle.std.proofs.Common.{◌≡◌, ℕ, ◌+◌, ◌*◌, ◌<◌, ◌≤◌, Bool, true, cond, ◌&&◌, eqb, ◌≢◌, ◌↔◌, List, [], ◌∷◌, ◌++◌, length, Contains, Decides, sum_by, count_by, filter, sym, refl, ap, ◌∙◌, mul-add, arith}
+use Rattle.std.proofs.lemmas.List.Elements.{All-contains}
+use Rattle.std.proofs.lemmas.List.Kept.{AllPairs-filter}
+use Rattle.std.proofs.lemmas.List.Sums.{sum_by-append, sum_by-cons, sum_by-le}
+use Rattle.std.proofs.lemmas.Bool.{cases_Bool, and_from}
+use Rattle.std.proofs.lemmas.Bool.Decides.{nat_tests}
+use Rattle.std.specs.List.{flat_map}
 use Rattle.domain.specs.declared.attributes.Bounds.{Bounds}
 use Rattle.domain.specs.declared.attributes.Cell.{Cell}
 use Rattle.domain.specs.Cells.{Divides, holders, indicator}
-use Rattle.sources.proofs.Counts.{count_from_has, count_kept, counts_distinct, counts_same, distinct_counts, has_counts, has_from_count, mark, sum_by_both, sum_by_none, sum_by_same}
-use Rattle.sources.proofs.Members.{kept_has, pairwise_kept}
+use Rattle.sources.proofs.Counts.{count_from_has, count_kept, counts_distinct, counts_same, distinct_counts, has_counts, has_from_count, mark, sum_by_both, sum_by_same}
+use Rattle.sources.proofs.Members.{kept_has}
 use Rattle.sources.specs.declared.record.Record.{Record}
 use Rattle.sources.specs.Pairs.{Distinct}
 use Rattle.sources.specs.Records.{LawfulRecord, blank, cell_of, inside}
@@ -57,27 +58,20 @@ fields x y =
 
 fields_decide : (x y : Record) → Decides (fields x y) (x ≡ y)
 unfolding fields
-fields_decide x y =
-    Decides-like (fields x y)
-    (λ (a, (b, (c, (d, e)))) i. record { number = a i; birth = b i; service = c i; band = d i; pension = e i })
-    (λ e. (λ i. (e i).number, (λ i. (e i).birth, (λ i. (e i).service, (λ i. (e i).band, λ i. (e i).pension)))))
-    (Decides-and _ _ (Decides-eqb _ _)
-    (Decides-and _ _ (Decides-eqb _ _)
-    (Decides-and _ _ (Decides-eqb _ _)
-    (Decides-and _ _ (Decides-eqb _ _) (Decides-eqb _ _)))))
+fields_decide x y = (λ e. grind (arith, nat_tests), λ e. grind (arith, nat_tests))
 
 -- so what is counted stands in a list, what stands there is counted, and what stands there once is counted once
-stands : (rs : List Record) (r : Record) → 0 < count_by (fields r) rs → Has rs r
+stands : (rs : List Record) (r : Record) → 0 < count_by (fields r) rs → Contains rs r
 stands rs r h = has_from_count fields fields_decide rs r h
 
-counted : (rs : List Record) (r : Record) → Has rs r → 0 < count_by (fields r) rs
+counted : (rs : List Record) (r : Record) → Contains rs r → 0 < count_by (fields r) rs
 counted rs r h = count_from_has fields fields_decide rs r h
 
 counted_once : (rs : List Record) → Distinct rs → (r : Record) → count_by (fields r) rs ≤ 1
 counted_once rs apart r = distinct_counts fields fields_decide rs apart r
 
 -- a record stands in a selection exactly if it is in the list and in the box
-selection_has : (b : Bounds) (rs : List Record) (r : Record) → Has (selection b rs) r ↔ (Has rs r × (inside b r ≡ true))
+selection_has : (b : Bounds) (rs : List Record) (r : Record) → Contains (selection b rs) r ↔ (Contains rs r × (inside b r ≡ true))
 unfolding selection
 selection_has b rs r = (
   kept_has (inside b) rs r,
@@ -90,14 +84,11 @@ selection_has b rs r = (
 
 selection_distinct : (b : Bounds) (rs : List Record) → Distinct rs → Distinct (selection b rs)
 unfolding selection
-selection_distinct b rs apart = pairwise_kept (λ x y. x ≢ y) (inside b) rs apart
+selection_distinct b rs apart = AllPairs-filter (λ x y. x ≢ y) (inside b) rs apart
 
 -- two numbers up to 1 that are above 0 together
 zero_or_one : (m n : ℕ) → m ≤ 1 → n ≤ 1 → (0 < m → 0 < n) → (0 < n → 0 < m) → m ≡ n
-zero_or_one m n a b to from = elim (cases_lt 0 m) [
-  | inl h ↦ omega (arith, to h)
-  | inr h ↦ elim (cases_lt 0 n) [ inl k ↦ omega (arith, from k) | inr k ↦ omega arith ]
-]
+zero_or_one m n a b to from = grind arith
 
 module _ (b : Bounds) (relation answer : List Record) (l : LawfulRelation relation) where
   selected_from_same : SameRecords answer (selection b relation) → Selected b relation answer
@@ -126,10 +117,7 @@ module _ (b : Bounds) (relation answer : List Record) (l : LawfulRelation relati
 
 -- what passes a test of what another test keeps, as a sum over the whole list
 both_marks : (s t : Bool) → cond (s && t) 1 0 ≡ cond t 1 0 * indicator s
-both_marks true true = refl
-both_marks true false = refl
-both_marks false true = refl
-both_marks false false = refl
+both_marks s t = grind (arith, cases_Bool s, cases_Bool t)
 
 kept_sum : (p q : Record → Bool) (rs : List Record) → count_by p (filter q rs) ≡ sum_by (λ r. mark p r * indicator (q r)) rs
 kept_sum p q rs = count_kept q p rs ∙ sum_by_same (mark (λ r. q r && p r)) (λ r. mark p r * indicator (q r)) (λ r. both_marks (q r) (p r)) rs
@@ -137,7 +125,7 @@ kept_sum p q rs = count_kept q p rs ∙ sum_by_same (mark (λ r. q r && p r)) (�
 -- what passes a test of the selections by some boxes: each record as often as boxes hold its cell
 joined_sum : (p : Record → Bool) (bs : List Bounds) (rs : List Record) → count_by p (flat_map (λ b. selection b rs) bs) ≡ sum_by (λ r. mark p r * holders bs (cell_of r)) rs
 unfolding selection
-joined_sum p [] rs = sym (sum_by_same (λ r. mark p r * 0) (λ r. 0) (λ r. mul-zero (mark p r)) rs ∙ sum_by_none rs)
+joined_sum p [] rs = omega (arith, sum_by-le (λ r. mark p r * 0) 0 rs (λ k d h. omega arith))
 joined_sum p (b ∷ bs) rs =
     let first : Record → ℕ = λ r. mark p r * indicator (inside b r) in
     let later : Record → ℕ = λ r. mark p r * holders bs (cell_of r) in
@@ -167,5 +155,5 @@ selection_laws = record {
   counted = same_length;
   appended = same_append;
   filtered = same_kept;
-  never_blank = λ relation l h. omega (arith, (All-contains LawfulRecord relation blank l.members (Contains-from_at relation blank h)).0);
+  never_blank = λ relation l h. omega (arith, (All-contains LawfulRecord relation blank l.members h).0);
 }

@@ -1,7 +1,6 @@
 -- Collections: the lists of records that can be kept and handed on.
-use Rattle.std.specs.Prelude.{ℕ, ◌<◌, ◌≤◌, Bool, true, cond, ◌&&◌, List, [], ◌∷◌, length, nat_le, nat_lt, All}
+use Rattle.std.specs.Prelude.{ℕ, ◌<◌, ◌≤◌, Bool, true, cond, ◌&&◌, List, [], ◌∷◌, length, nat_le, nat_lt, All, AllPairs}
 use Rattle.sources.specs.declared.record.Record.{Record}
-use Rattle.sources.specs.Pairs.{Pairwise}
 use Rattle.sources.specs.Records.{LawfulRecord, is_lawful_record}
 
 -- the most records of a collection
@@ -10,7 +9,7 @@ max_records = 2048
 
 -- the numbers of the records rise strictly
 abbrev pub Rising : List Record → Type 0
-Rising rs = Pairwise (λ r s. r.number < s.number) rs
+Rising rs = AllPairs (λ r s. r.number < s.number) rs
 
 -- COLLECTION: the records make one
 pub record Collection (rs : List Record) : Type 0 where

@@ -1,6 +1,6 @@
 -- Selections: which records of a list lie in a box, and when two lists have the same records.
-use Rattle.std.specs.Prelude.{◌≡◌, Bool, true, ◌↔◌, List, ◌++◌, length, count_by, filter, All}
-use Rattle.std.specs.List.{ContainsAt as Has, flat_map}
+use Rattle.std.specs.Prelude.{◌≡◌, Bool, true, ◌↔◌, List, ◌++◌, length, count_by, filter, All, Contains}
+use Rattle.std.specs.List.{flat_map}
 use Rattle.domain.specs.declared.attributes.Bounds.{Bounds}
 use Rattle.domain.specs.declared.attributes.Cell.{Cell}
 use Rattle.domain.specs.Cells.{Divides}
@@ -26,7 +26,7 @@ pub record LawfulRelation (relation : List Record) : Type 0 where
 -- SELECTED: the records of the answer are those of the relation that lie in the box, each once, in plain words
 pub record Selected (b : Bounds) (relation answer : List Record) : Type 0 where
   -- a record stands in the answer exactly if it is in the relation and in the box
-  pub exactly : (r : Record) → Has answer r ↔ (Has relation r × (inside b r ≡ true))
+  pub exactly : (r : Record) → Contains answer r ↔ (Contains relation r × (inside b r ≡ true))
   -- and none stands twice
   pub once : Distinct answer
 
@@ -41,4 +41,4 @@ pub record SelectionLaws : Type 0 where
   pub appended : (xs ys zs ws : List Record) → SameRecords xs ys → SameRecords zs ws → SameRecords (xs ++ zs) (ys ++ ws)
   pub filtered : (test : Record → Bool) (xs ys : List Record) → SameRecords xs ys → SameRecords (filter test xs) (filter test ys)
   -- no lawful relation has the blank record, so a blank place is never an answer
-  pub never_blank : (relation : List Record) → LawfulRelation relation → Has relation blank → ⊥
+  pub never_blank : (relation : List Record) → LawfulRelation relation → Contains relation blank → ⊥

@@ -1,4 +1,4 @@
-ghost use Rattle.std.specs.Prelude.{◌≡◌, true, Decides};
+ghost use Rattle.std.specs.Prelude.{◌↔◌, ◌≡◌, IsTrue};
 ghost use Rattle.sources.specs.Collections.{Collection, follow_on, is_collection, may_follow};
 ghost use Rattle.sources.specs.Selections.{LawfulRelation};
 
@@ -11,8 +11,8 @@ pub const MAX_RECORDS: usize = 2048;
 /// all attributes in span?
 pub fn is_collection(records: &[Record]) -> bool
     ensures value { result ≡ is_collection records.now }
-    ensures cases { Decides result (Collection records.now) }
-    ensures lawful { result ≡ true → LawfulRelation records.now }
+    ensures cases { IsTrue result ↔ Collection records.now }
+    ensures lawful { IsTrue result → LawfulRelation records.now }
 {
     records.len() <= MAX_RECORDS && follow_on(records)
 }

@@ -5,7 +5,7 @@ ghost use Rattle.sources.specs.Meters.{raised_by};
 use boxes::CellBox;
 
 /// What a source has charged: a number of 64 bits that rises by the cells of every question, and stops at its end.
-#[derive(Clone, Copy)]
+#[derive(Clone, Copy, PartialEq, Eq, Debug)]
 pub struct Meter {
     reading: u64,
 }

@@ -1,4 +1,4 @@
-ghost use Rattle.std.specs.Prelude.{◌≡◌, Decides};
+ghost use Rattle.std.specs.Prelude.{◌↔◌, ◌≡◌, IsTrue};
 ghost use Rattle.sources.specs.Records.{LawfulRecord, cell_of, inside, is_lawful_record};
 
 use boxes::CellBox;
@@ -50,7 +50,7 @@ impl Record {
     /// May a source have the record: is its number at least 1, and every attribute in its span?
     pub fn is_lawful(self) -> bool
         ensures value { result ≡ is_lawful_record self }
-        ensures cases { Decides result (LawfulRecord self) }
+        ensures cases { IsTrue result ↔ LawfulRecord self }
     {
         1 <= self.number && self.lies_in(CellBox::whole())
     }

@@ -21,16 +21,18 @@ pub fn select(records: &[Record], area: CellBox, out: &mut [Record]) -> Result<u
     ensures after { out.new ≡ buffer_of (selection area.bounds records.now) out.old }
     ensures selection_laws { SelectionLaws }
 {
-    let mut count = 0;
-    for record in records {
-        if record.lies_in(area) {
-            if count == out.len() {
-                blank_all(out);
-                return Err(Refusal::BufferTooShort);
-            }
-            out[count] = *record;
-            count += 1;
-        }
+    let mut chosen = records.iter().filter(|record| record.lies_in(area));
+    for (count, place) in out.iter_mut().enumerate() {
+        let Some(record) = chosen.next() else {
+            return Ok(count);
+        };
+        *place = *record;
     }
-    Ok(count)
+    match chosen.next() {
+        Some(_) => {
+            blank_all(out);
+            Err(Refusal::BufferTooShort)
+        }
+        None => Ok(out.len()),
+    }
 }

@@ -7,11 +7,11 @@ mod tests {
     use boxes::CellBox;
     use domain::{Bounds, Refusal, Span};
     use sources::{Record, Source, is_collection};
-    use statements::answer_text;
+    use statements::Answer;
     use std::alloc::{AllocError, Global};
     use std::test::Fail;
     use tables::{Table, draw};
-    use values::{Nearness, Recency, Region, ValueFunction};
+    use values::{Nearness, PlainRegion, Recency, Region, ValueFunction};
 
     fn area(birth: (u16, u16), service: (u16, u16), band: (u16, u16)) -> Result<CellBox, Refusal> {
         CellBox::new(Bounds {
@@ -42,11 +42,9 @@ mod tests {
 
     // Members 1 to n, all of one cell.
     fn members(heap: Global, n: u32) -> Result<Vec<Record>, AllocError> {
-        let mut records = Vec::new(heap);
-        for k in 0..n {
-            records.push(member(k + 1, 734, 130, 5))?;
-        }
-        Ok(records)
+        (1..=n)
+            .map(|number| member(number, 734, 130, 5))
+            .collect(heap)
     }
 
     // What stands in a buffer before a question.
@@ -212,27 +210,31 @@ mod tests {
     fn a_region_has_its_plain_numbers(rt: HostRuntime) -> Result<(), Fail> {
         let question = area((10, 20), (30, 40), (3, 5))?;
         let region = Region::new(question, 41, 7);
-        assert_eq!(rt; region.plain().bounds, question.bounds());
         assert_eq!(rt; region.area().bounds(), question.bounds());
         assert_eq!(rt; region.stamp(), 41);
-        assert_eq!(rt; region.plain().stamp, 41);
         assert_eq!(rt; region.count(), 7);
-        assert_eq!(rt; region.plain().count, 7);
+        assert_eq!(rt;
+            PlainRegion::from(region),
+            PlainRegion {
+                bounds: question.bounds(),
+                stamp: 41,
+                count: 7,
+            }
+        );
         Ok(())
     }
 
     #[test]
     fn answers_are_written_with_their_numbers(rt: HostRuntime) -> Result<(), Fail> {
-        assert_eq!(rt; answer_text(rt.alloc(), &[])?.as_str(), "answer 0");
+        let none = Answer { records: &[] };
+        assert_eq!(rt; none.to_string(rt.alloc())?.as_str(), "answer 0");
         let answered = [member(4, 798, 200, 6), member(9, 874, 12, 8)];
-        assert_eq!(rt;
-            answer_text(rt.alloc(), &answered)?.as_str(),
-            "answer 2: 4 9"
-        );
-        assert_eq!(rt;
-            answer_text(rt.alloc(), &answered[1..])?.as_str(),
-            "answer 1: 9"
-        );
+        let both = Answer { records: &answered };
+        assert_eq!(rt; both.to_string(rt.alloc())?.as_str(), "answer 2: 4 9");
+        let last = Answer {
+            records: &answered[1..],
+        };
+        assert_eq!(rt; last.to_string(rt.alloc())?.as_str(), "answer 1: 9");
         Ok(())
     }
 }

@@ -4,4 +4,4 @@
 
 pub mod text;
 
-pub use text::answer_text;
+pub use text::Answer;

@@ -10,7 +10,7 @@ use domain::Refusal;
 use sources::{Record, Source};
 
 /// What a question brought: its answer, and what was charged for it.
-#[derive(Drop)]
+#[derive(Clone, Copy, PartialEq, Eq, Debug)]
 pub struct Cohort {
     /// How many records were answered.
     pub answer: Result<usize, Refusal>,

@@ -1,4 +1,4 @@
-ghost use Rattle.std.specs.Prelude.{◌≡◌, true};
+ghost use Rattle.std.specs.Prelude.{IsTrue};
 ghost use Rattle.sources.specs.Collections.{is_collection};
 
 use sources::{Meter, Record};
@@ -11,5 +11,5 @@ pub mod methods;
 pub struct Table<'a> {
     records: &'a [Record],
     meter: Meter,
-    ghost collection: { is_collection records.now ≡ true },
+    ghost collection: { IsTrue (is_collection records.now) },
 }

@@ -11,7 +11,7 @@ use domain::Span;
 const FARTHEST: u32 = 4538;
 
 /// Values a region by how near it lies to the question: 4,538 less the distance of the two boxes.
-#[derive(Clone, Copy)]
+#[derive(Clone, Copy, PartialEq, Eq, Debug)]
 pub struct Nearness;
 
 impl ValueFunction for Nearness {

@@ -3,7 +3,7 @@ use crate::value_function::ValueFunction;
 use boxes::CellBox;
 
 /// Values a region by its stamp: the longer no question has met it, the less it is worth.
-#[derive(Clone, Copy)]
+#[derive(Clone, Copy, PartialEq, Eq, Debug)]
 pub struct Recency;
 
 impl ValueFunction for Recency {

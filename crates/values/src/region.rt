@@ -5,7 +5,7 @@ use boxes::CellBox;
 use domain::{Bounds, HasBounds};
 
 /// The plain numbers of a region, as lists and tables hold them.
-#[derive(Clone, Copy)]
+#[derive(Clone, Copy, PartialEq, Eq, Debug)]
 pub struct PlainRegion {
     pub bounds: Bounds,
     /// The number of the last question that met the region.
@@ -43,34 +43,33 @@ impl Region {
     pub fn area(self) -> CellBox
         ensures value { result.bounds ≡ (plain_of self).bounds }
     {
-        let Region { area, .. } = self;
-        area
+        self.area
     }
 
     /// The number of the last question that met it.
     pub fn stamp(self) -> u32
         ensures value { result ≡ (plain_of self).stamp }
     {
-        let Region { stamp, .. } = self;
-        stamp
+        self.stamp
     }
 
     /// How many records lie in it.
     pub fn count(self) -> usize
         ensures value { result ≡ (plain_of self).count }
     {
-        let Region { count, .. } = self;
-        count
+        self.count
     }
+}
 
-    /// Its plain numbers.
-    pub fn plain(self) -> PlainRegion
-        ensures value { result ≡ plain_of self }
-    {
+/// The plain numbers of a region.
+impl From<Region> for PlainRegion {
+    ghost from_gives = { λ r p. p ≡ plain_of r };
+
+    fn from(region: Region) -> PlainRegion {
         PlainRegion {
-            bounds: self.area.bounds(),
-            stamp: self.stamp,
-            count: self.count,
+            bounds: region.area.bounds(),
+            stamp: region.stamp,
+            count: region.count,
         }
     }
 }
