@@ -1,5 +1,5 @@
 -- Collections: the lists of records that can be kept and handed on.
-use Rattle.std.specs.Prelude.{ℕ, ◌<◌, ◌≤◌, Bool, true, cond, ◌&&◌, List, [], ◌∷◌, length, nat_le, nat_lt, All, AllPairs}
+use Rattle.std.specs.Prelude.{ℕ, ◌<◌, ◌≤◌, Bool, true, if◌then◌else◌, ◌&&◌, List, [], ◌∷◌, length, nat_le, nat_lt, All, AllPairs}
 use Rattle.sources.specs.declared.record.Record.{Record}
 use Rattle.sources.specs.Records.{LawfulRecord, is_lawful_record}
 
@@ -33,4 +33,4 @@ is_collection rs = nat_le (length rs) max_records && follow_on 0 rs
 
 -- the records, if they make a collection; otherwise none
 abbrev pub collection_of : List Record → List Record
-collection_of rs = cond (is_collection rs) rs []
+collection_of rs = if is_collection rs then rs else []

@@ -1,5 +1,5 @@
 -- Records: members of a scheme.
-use Rattle.std.specs.Prelude.{◌≡◌, ◌≤◌, Bool, true, ◌&&◌, nat_le}
+use Rattle.std.specs.Prelude.{◌≤◌, Bool, IsTrue, ◌&&◌, nat_le}
 use Rattle.domain.specs.declared.attributes.Bounds.{Bounds}
 use Rattle.domain.specs.declared.attributes.Cell.{Cell}
 use Rattle.domain.specs.Attributes.{whole_domain}
@@ -20,7 +20,7 @@ inside b r = holds b (cell_of r)
 
 -- a record that a source may have: numbered from 1, every attribute in its span
 abbrev pub LawfulRecord : Record → Type 0
-LawfulRecord r = (1 ≤ r.number) × (inside whole_domain r ≡ true)
+LawfulRecord r = (1 ≤ r.number) × IsTrue (inside whole_domain r)
 
 -- the test of `LawfulRecord`
 abbrev pub is_lawful_record : Record → Bool

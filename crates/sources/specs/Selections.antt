@@ -1,5 +1,5 @@
 -- Selections: which records of a list lie in a box, and when two lists have the same records.
-use Rattle.std.specs.Prelude.{◌≡◌, Bool, true, ◌↔◌, List, ◌++◌, length, count_by, filter, All, Contains}
+use Rattle.std.specs.Prelude.{◌≡◌, Bool, IsTrue, ◌↔◌, List, ◌++◌, length, count_by, filter, All, Contains}
 use Rattle.std.specs.List.{flat_map}
 use Rattle.domain.specs.declared.attributes.Bounds.{Bounds}
 use Rattle.domain.specs.declared.attributes.Cell.{Cell}
@@ -26,7 +26,7 @@ pub record LawfulRelation (relation : List Record) : Type 0 where
 -- SELECTED: the records of the answer are those of the relation that lie in the box, each once, in plain words
 pub record Selected (b : Bounds) (relation answer : List Record) : Type 0 where
   -- a record stands in the answer exactly if it is in the relation and in the box
-  pub exactly : (r : Record) → Contains answer r ↔ (Contains relation r × (inside b r ≡ true))
+  pub exactly : (r : Record) → Contains answer r ↔ (Contains relation r × IsTrue (inside b r))
   -- and none stands twice
   pub once : Distinct answer
 

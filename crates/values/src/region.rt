@@ -24,7 +24,7 @@ impl HasBounds for PlainRegion {
 
 /// A region: a box that is held, its stamp and its number of records. It is made when it is wanted; what is kept are its
 /// plain numbers.
-#[derive(Clone, Copy)]
+#[derive(Clone, Copy, PartialEq, Eq, Debug)]
 pub struct Region {
     area: CellBox,
     stamp: u32,
