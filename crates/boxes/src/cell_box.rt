@@ -13,6 +13,7 @@ pub mod splitting;
 
 /// A box: a closed range in each attribute, every lower end at or below its upper end and both in the span of the
 /// attribute.
+// a ghost field, and no `impl Model`: what holds boxes rests on their lawfulness, which a model would keep from it
 #[derive(Clone, Copy, PartialEq, Eq, Debug)]
 pub struct CellBox {
     bounds: Bounds,
@@ -21,6 +22,7 @@ pub struct CellBox {
 
 impl CellBox {
     /// The box of six numbers, or why they make none.
+    // no `TryFrom<Bounds>`: the trait has one relation in place of these three clauses
     pub fn new(bounds: Bounds) -> Result<CellBox, Refusal>
         ensures refused { result_err result ≡ refusal_of bounds }
         ensures ok { IfOk result (λ b. b.bounds ≡ bounds) }

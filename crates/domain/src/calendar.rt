@@ -25,6 +25,7 @@ impl YearMonth {
     }
 
     /// The month of a birth rank.
+    // no `TryFrom<u16>`: its error type would say no more than `None`
     pub fn of_rank(rank: u16) -> Option<YearMonth>
         ensures value { result ≡ month_of rank }
         ensures back { IfSome result (λ m. rank_of m ≡ Some rank) }

@@ -5,6 +5,7 @@ use domain::{Bounds, Span};
 use std::alloc::{AllocError, Global};
 
 /// The plain numbers of a box, from six numbers in the order of the attributes.
+// no `From<[u16; 6]>`: it would have to stand in `domain`, and the order of the words is the program's affair
 pub fn bounds_of(six: &[u16; 6]) -> Bounds
     ensures value { six_of result ≡ six.now }
 {

@@ -16,6 +16,7 @@ pub fn blank_all(out: &mut [Record])
 
 /// Copies the records that lie in a box to the first places of a buffer, in their order, and answers how many there
 /// are. Where they outnumber the places it is refused, and every place is blank.
+// a lent buffer and a count, and no `Vec`: the library has no heap
 pub fn select(records: &[Record], area: CellBox, out: &mut [Record]) -> Result<usize, Refusal>
     ensures value { result ≡ answer_of (selection area.bounds records.now) (length out.old) }
     ensures after { out.new ≡ buffer_of (selection area.bounds records.now) out.old }

@@ -36,6 +36,7 @@ pub trait Source {
     /// answer is k, the first k places hold these records, each once, and the others are untouched. If it has fewer,
     /// the question is refused with `BufferTooShort`, and every place is blank. Either way the meter rises by the cells
     /// of the area, and stops at its end.
+    // a lent buffer and a count, and no `Vec`: the library has no heap
     fn query(&mut self, area: CellBox, out: &mut [Record]) -> Result<usize, Refusal>
         ensures answers { Answers (relation self.old) area.bounds out.old result out.new }
         ensures charge { meter self.new ≡ raised_by (meter self.old) (cells_of area.bounds) }

@@ -13,6 +13,7 @@ mod tests {
     use tables::{Table, draw};
     use values::{Nearness, PlainRegion, Recency, Region, ValueFunction};
 
+    // `boxes_tests` has the like: a crate for both would be longer than the two.
     fn area(birth: (u16, u16), service: (u16, u16), band: (u16, u16)) -> Result<CellBox, Refusal> {
         CellBox::new(Bounds {
             birth: Span {

@@ -20,6 +20,7 @@ pub struct Cohort {
 
 /// Draws a cohort: puts one question to a fresh table of the records. The records answered stand in the first places of
 /// the buffer, in the order of their numbers.
+// a lent buffer and a count, and no `Vec`: the library has no heap
 pub fn draw(records: &[Record], area: CellBox, out: &mut [Record]) -> Cohort
     ensures answer { result.answer ≡ answer_of (selection area.bounds (collection_of records.now)) (length out.old) }
     ensures after { out.new ≡ buffer_of (selection area.bounds (collection_of records.now)) out.old }

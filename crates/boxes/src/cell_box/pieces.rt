@@ -10,6 +10,7 @@ pub mod methods;
 pub const MAX_PIECES: usize = 32;
 
 /// The pieces that a cut or a split leaves: at most 32 boxes in order. The first `len` places are in use.
+// an array with its length, and no `ArrayVec` of the kit: pieces are fixed memory and `Copy`, which that is not
 #[derive(Clone, Copy)]
 pub struct Pieces {
     boxes: [CellBox; MAX_PIECES],

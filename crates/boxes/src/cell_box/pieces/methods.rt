@@ -72,6 +72,7 @@ impl Pieces {
 
     /// Writes the pieces into the first places of a list and answers how many there are; refused, with nothing written,
     /// where the list has fewer places.
+    // a lent list and a count, and no `Vec`: the library has no heap
     pub fn write_to(&self, list: &mut [Bounds]) -> Result<usize, Refusal>
         ensures value { result ≡ plan_answer (Some (pieces_of self.now)) (length list.old) }
         ensures after { list.new ≡ plan_list (Some (pieces_of self.now)) list.old }
