@@ -1,7 +1,7 @@
-use Rattle.std.proofs.Common.{◌≡◌, true, [], subst}
+use Rattle.std.proofs.Common.{◌≡◌, true, [], ◌∷◌, sym, subst}
 use Rattle.boxes.specs.Cuts.{cut_of}
 use Rattle.boxes.specs.Pieces.{pieces_of}
-use Rattle.boxes.specs.Splits.{Appended}
+use Rattle.boxes.specs.Splits.{Appended, Remainder}
 use Rattle.boxes.proofs.Appending.{appended_whole}
 use Rattle.boxes.proofs.Remainders.{cut_remainder}
 use Rattle.boxes.proofs.cell_box.CellBox.cut.Goals as goal
@@ -13,5 +13,5 @@ returns c =
     appended_whole [] left (subst (λ xs. Appended xs left (pieces_of c.cut_into.new.out) true) c.new-pieces.ensures.value c.in-Ok.ensures.after) in
     record {
       value = is;
-      remainder = cut_remainder c.args.self.bounds c.args.self.ok c.cut_into.new.out c.args.by is;
+      remainder = subst (Remainder c.args.self.bounds (c.args.by ∷ [])) (sym is) (cut_remainder c.args.self.bounds c.args.by c.args.self.ok);
     }

@@ -35,4 +35,4 @@ returns g c =
     let ps : List Bounds = pieces_of c.loop-region.pieces in
     let is : split_of q rs ≡ Some ps =
     row_end g.R.HasBounds.bounds cut_order c.args.regions.now c.loop-region.region-index _ ps c.loop-region.invariant c.of-pieces.ensures.value c.loop-region-test.false in
-    record { value = sym is; remainder = split_remainder q c.args.self.ok c.loop-region.pieces rs is }
+    record { value = sym is; remainder = split_remainder q rs ps c.args.self.ok is }
