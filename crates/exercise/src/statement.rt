@@ -16,7 +16,8 @@ pub struct Statement {
 
 /// The statement of a question; refused where its split is broken.
 pub fn state(question: CellBox, regions: &[Bounds]) -> Result<Statement, Refusal>
-    ensures cases { MatchResult result (λ s. Stated question.bounds regions.now s) (λ e. (split_of question.bounds regions.now ≡ None) × (e ≡ SplitTooLarge)) }
+    ensures cases { MatchResult result (λ s. Stated question.bounds regions.now s)
+        (λ e. (split_of question.bounds regions.now ≡ None) × (e ≡ SplitTooLarge)) }
 {
     let pieces = question.split(regions)?;
     let charge = pieces.cells();

@@ -19,7 +19,8 @@ pub fn bounds_of(six: &[u16; 6]) -> Bounds
 
 /// Regions, each from six numbers; None where numbers are left over.
 pub fn regions_of(heap: Global, numbers: &[u16]) -> Result<Option<Vec<Bounds>>, AllocError>
-    ensures made { IfOk result (λ o. MatchOption o (NoBoxes numbers.now) (λ regions. numbers_of regions.items ≡ numbers.now)) }
+    ensures made { IfOk result (λ o. MatchOption o (NoBoxes numbers.now)
+        (λ regions. numbers_of regions.items ≡ numbers.now)) }
 {
     let (sixes, left) = numbers.as_chunks::<6>();
     if !left.is_empty() {

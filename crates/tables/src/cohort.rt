@@ -22,9 +22,12 @@ pub struct Cohort {
 /// the buffer, in the order of their numbers.
 // a lent buffer and a count, and no `Vec`: the library has no heap
 pub fn draw(records: &[Record], area: CellBox, out: &mut [Record]) -> Cohort
-    ensures answer { result.answer ≡ answer_of (selection area.bounds (collection_of records.now)) (length out.old) }
-    ensures after { out.new ≡ buffer_of (selection area.bounds (collection_of records.now)) out.old }
-    ensures selected { IfOk result.answer (λ k. Selected area.bounds (collection_of records.now) (take k out.new)) }
+    ensures answer { result.answer
+        ≡ answer_of (selection area.bounds (collection_of records.now)) (length out.old) }
+    ensures after { out.new
+        ≡ buffer_of (selection area.bounds (collection_of records.now)) out.old }
+    ensures selected { IfOk result.answer (λ k.
+        Selected area.bounds (collection_of records.now) (take k out.new)) }
     ensures charge { result.charge ≡ count (holds area.bounds) }
 {
     let mut table = Table::new(records);

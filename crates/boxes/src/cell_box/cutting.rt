@@ -85,8 +85,10 @@ impl Overlap {
 
     /// Cuts along one attribute: the remnants go to `out`, and what they leave of the piece is given back.
     fn cut_axis(self, axis: Axis, out: &mut Pieces) -> Result<Overlap, TooManyPieces>
-        ensures after { Appended (pieces_of out.old) (remnants_along axis self.piece.bounds self.by) (pieces_of out.new) (is_ok result) }
-        ensures ok { IfOk result (λ rest. (rest.piece.bounds ≡ narrowed axis self.piece.bounds self.by) × (rest.by ≡ self.by)) }
+        ensures after { Appended (pieces_of out.old) (remnants_along axis self.piece.bounds self.by)
+            (pieces_of out.new) (is_ok result) }
+        ensures ok { IfOk result (λ rest. (rest.piece.bounds ≡ narrowed axis self.piece.bounds self.by)
+            × (rest.by ≡ self.by)) }
     {
         let (lower, upper) = self.cut_along(axis);
         push_remnant(out, lower)?;
@@ -96,7 +98,8 @@ impl Overlap {
 
     /// Cuts along one attribute after another; the remnants go to `out`, in the order found.
     fn cut_axes(self, order: &[Axis], out: &mut Pieces) -> Result<(), TooManyPieces>
-        ensures after { Appended (pieces_of out.old) (remnants order.now self.piece.bounds self.by) (pieces_of out.new) (is_ok result) }
+        ensures after { Appended (pieces_of out.old) (remnants order.now self.piece.bounds self.by)
+            (pieces_of out.new) (is_ok result) }
     {
         let mut rest = self;
         for axis in order {
@@ -108,7 +111,8 @@ impl Overlap {
 
 /// Adds a remnant, if there is one.
 fn push_remnant(out: &mut Pieces, remnant: Option<CellBox>) -> Result<(), TooManyPieces>
-    ensures after { Appended (pieces_of out.old) (option_to_list (bounds_of remnant)) (pieces_of out.new) (is_ok result) }
+    ensures after { Appended (pieces_of out.old) (option_to_list (bounds_of remnant))
+        (pieces_of out.new) (is_ok result) }
 {
     match remnant {
         Some(piece) => out.push(piece),
@@ -120,7 +124,8 @@ impl CellBox {
     /// Adds to `out` what `by` leaves of the box, in order; refused where `out` would have more than 32 pieces, and the
     /// first 32 then stand.
     pub(crate) fn cut_into(self, by: Bounds, out: &mut Pieces) -> Result<(), TooManyPieces>
-        ensures after { Appended (pieces_of out.old) (cut_of self.bounds by) (pieces_of out.new) (is_ok result) }
+        ensures after { Appended (pieces_of out.old) (cut_of self.bounds by)
+            (pieces_of out.new) (is_ok result) }
     {
         if self.bounds.meets(by) {
             Overlap { piece: self, by }.cut_axes(&CUT_ORDER, out)
@@ -137,7 +142,7 @@ impl CellBox {
         // there are six pieces at most, so there is room
         let mut pieces = Pieces::new();
         let Ok(()) = self.cut_into(by, &mut pieces) else {
-            unreachable();
+            unreachable!();
         };
         pieces
     }

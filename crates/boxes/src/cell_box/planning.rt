@@ -19,8 +19,10 @@ impl CellBox {
     /// Writes the remainder boxes of a question into the first places of a list and answers how many there are.
     // a lent list and a count, and no `Vec`: the library has no heap
     pub fn plan<R: HasBounds>(self, regions: &[R], list: &mut [Bounds]) -> Result<usize, Refusal>
-        ensures value { result ≡ plan_answer (split_of self.bounds (map R.bounds regions.now)) (length list.old) }
-        ensures after { list.new ≡ plan_list (split_of self.bounds (map R.bounds regions.now)) list.old }
+        ensures value { result
+            ≡ plan_answer (split_of self.bounds (map R.bounds regions.now)) (length list.old) }
+        ensures after { list.new
+            ≡ plan_list (split_of self.bounds (map R.bounds regions.now)) list.old }
     {
         self.split(regions)?.write_to(list)
     }

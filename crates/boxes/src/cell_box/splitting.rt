@@ -10,7 +10,8 @@ use domain::{Bounds, HasBounds};
 impl Pieces {
     /// Every piece cut by one region, in order.
     fn cut_by(&self, region: Bounds) -> Result<Pieces, TooManyPieces>
-        ensures value { pieces_given result ≡ unbroken (cut_all_in cut_order (pieces_of self.now) region) }
+        ensures value { pieces_given result
+            ≡ unbroken (cut_all_in cut_order (pieces_of self.now) region) }
     {
         let mut pieces = Pieces::new();
         for piece in self.as_slice() {
@@ -25,7 +26,8 @@ impl CellBox {
     /// broken: more than 32 pieces stand after a region.
     pub fn split<R: HasBounds>(self, regions: &[R]) -> Result<Pieces, TooManyPieces>
         ensures value { pieces_given result ≡ split_of self.bounds (map R.bounds regions.now) }
-        ensures remainder { IfOk result (λ ps. Remainder self.bounds (map R.bounds regions.now) (pieces_of ps)) }
+        ensures remainder { IfOk result (λ ps.
+            Remainder self.bounds (map R.bounds regions.now) (pieces_of ps)) }
     {
         let mut pieces = Pieces::of(self);
         for region in regions {

@@ -32,7 +32,8 @@ impl Pieces {
 
     /// One piece more; refused, with nothing changed, where 32 stand.
     pub(crate) fn push(&mut self, piece: CellBox) -> Result<(), TooManyPieces>
-        ensures after { Appended (pieces_of self.old) (piece.bounds ∷ []) (pieces_of self.new) (is_ok result) }
+        ensures after { Appended (pieces_of self.old) (piece.bounds ∷ [])
+            (pieces_of self.new) (is_ok result) }
     {
         if self.len == MAX_PIECES {
             return Err(TooManyPieces);
