@@ -22,7 +22,7 @@ pub struct CellBox {
 
 impl CellBox {
     /// The box of six numbers, or why they make none.
-    // no `TryFrom<Bounds>`: the trait has one relation in place of these three clauses
+    // a constructor that may refuse, and no `TryFrom`: the trait would say these three clauses by one relation
     pub fn new(bounds: Bounds) -> Result<CellBox, Refusal>
         ensures refused { result_err result ≡ refusal_of bounds }
         ensures ok { IfOk result (λ b. b.bounds ≡ bounds) }
@@ -46,6 +46,7 @@ impl CellBox {
     }
 
     /// The six numbers of the box.
+    // what it is made of, and no `From`: the call has the name by which a row of anything is read, `HasBounds::bounds`
     pub fn bounds(self) -> Bounds
         ensures value { result ≡ self.bounds }
     {

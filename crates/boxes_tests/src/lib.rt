@@ -5,83 +5,61 @@
 #[cfg(test)]
 mod tests {
     use boxes::{CellBox, Pieces};
-    use domain::{Bounds, Cell, Refusal, Span, YearMonth};
+    use domain::{Bounds, Cell, Refusal, YearMonth};
     use std::alloc::{AllocError, Global};
     use std::test::Fail;
 
-    fn bounds(birth: (u16, u16), service: (u16, u16), band: (u16, u16)) -> Bounds {
-        Bounds {
-            birth: Span {
-                low: birth.0,
-                high: birth.1,
-            },
-            service: Span {
-                low: service.0,
-                high: service.1,
-            },
-            band: Span {
-                low: band.0,
-                high: band.1,
-            },
-        }
-    }
-
     // All services and bands of some births.
     fn slice(low: u16, high: u16) -> Bounds {
-        bounds((low, high), (0, 719), (0, 15))
+        Bounds::from([low, high, 0, 719, 0, 15])
     }
 
     // The refusal of six numbers that make no box.
     fn refusal(numbers: Bounds) -> Option<Refusal> {
-        match CellBox::new(numbers) {
-            Ok(_) => None,
-            Err(refusal) => Some(refusal),
-        }
+        CellBox::new(numbers).err()
     }
 
     fn piece(pieces: &Pieces, place: usize) -> Result<Bounds, Fail> {
-        match pieces.get(place) {
-            Some(piece) => Ok(piece.bounds()),
-            None => Err(Fail::new("there is no such piece")),
-        }
+        pieces
+            .get(place)
+            .map(|piece| piece.bounds())
+            .ok_or_else(|| Fail::new("there is no such piece"))
     }
 
     // One region at each of the first n odd births, so that the even ones are left.
     fn odd_births(heap: Global, n: u8) -> Result<Vec<Bounds>, AllocError> {
-        let mut regions = Vec::new(heap);
-        for k in 0..n {
-            let birth = 2 * u16::from(k) + 1;
-            regions.push(slice(birth, birth))?;
-        }
-        Ok(regions)
+        (0..n)
+            .map(|k| 2 * u16::from(k) + 1)
+            .map(|birth| slice(birth, birth))
+            .collect(heap)
     }
 
     #[test]
     fn ends_of_the_domain(rt: HostRuntime) -> Result<(), Fail> {
-        assert_eq!(rt; CellBox::new(bounds((0, 0), (0, 0), (0, 0)))?.cells(), 1);
+        assert_eq!(rt; CellBox::new(Bounds::from([0, 0, 0, 0, 0, 0]))?.cells(), 1);
         assert_eq!(rt;
-            CellBox::new(bounds((1535, 1535), (719, 719), (15, 15)))?.cells(),
+            CellBox::new(Bounds::from([1535, 1535, 719, 719, 15, 15]))?.cells(),
             1
         );
         assert_eq!(rt;
-            CellBox::new(bounds((0, 1535), (0, 719), (0, 15)))?.cells(),
+            CellBox::new(Bounds::from([0, 1535, 0, 719, 0, 15]))?.cells(),
             17_694_720
         );
         assert_eq!(rt; CellBox::whole().cells(), 17_694_720);
         assert_eq!(rt;
-            refusal(bounds((0, 1536), (0, 719), (0, 15))),
+            refusal(Bounds::from([0, 1536, 0, 719, 0, 15])),
             Some(Refusal::InvalidRange)
         );
         assert_eq!(rt;
-            refusal(bounds((0, 1535), (0, 720), (0, 15))),
+            refusal(Bounds::from([0, 1535, 0, 720, 0, 15])),
             Some(Refusal::InvalidRange)
         );
         assert_eq!(rt;
-            refusal(bounds((0, 1535), (0, 719), (0, 16))),
+            refusal(Bounds::from([0, 1535, 0, 719, 0, 16])),
             Some(Refusal::InvalidRange)
         );
         assert_eq!(rt;
-            refusal(bounds((65535, 65535), (0, 719), (0, 15))),
+            refusal(Bounds::from([65535, 65535, 0, 719, 0, 15])),
             Some(Refusal::InvalidRange)
         );
         Ok(())
@@ -90,30 +68,30 @@ mod tests {
     #[test]
     fn out_of_span_before_reversed(rt: HostRuntime) {
         assert_eq!(rt;
-            refusal(bounds((9, 8), (0, 0), (0, 0))),
+            refusal(Bounds::from([9, 8, 0, 0, 0, 0])),
             Some(Refusal::ReversedRange)
         );
         assert_eq!(rt;
-            refusal(bounds((0, 0), (9, 8), (0, 0))),
+            refusal(Bounds::from([0, 0, 9, 8, 0, 0])),
             Some(Refusal::ReversedRange)
         );
         assert_eq!(rt;
-            refusal(bounds((0, 0), (0, 0), (9, 8))),
+            refusal(Bounds::from([0, 0, 0, 0, 9, 8])),
             Some(Refusal::ReversedRange)
         );
         assert_eq!(rt;
-            refusal(bounds((9, 8), (0, 0), (0, 16))),
+            refusal(Bounds::from([9, 8, 0, 0, 0, 16])),
             Some(Refusal::InvalidRange)
         );
         assert_eq!(rt;
-            refusal(bounds((1536, 8), (0, 0), (0, 0))),
+            refusal(Bounds::from([1536, 8, 0, 0, 0, 0])),
             Some(Refusal::InvalidRange)
         );
     }
 
     #[test]
     fn cells_and_meeting(rt: HostRuntime) -> Result<(), Fail> {
-        let area = CellBox::new(bounds((10, 19), (5, 5), (0, 3)))?;
+        let area = CellBox::new(Bounds::from([10, 19, 5, 5, 0, 3]))?;
         assert_eq!(rt; area.cells(), 40);
         assert!(rt;
             area.contains(Cell {
@@ -143,10 +121,10 @@ mod tests {
                 band: 3,
             })
         );
-        assert!(rt; area.meets(CellBox::new(bounds((19, 30), (0, 9), (3, 15)))?));
-        assert!(rt; !area.meets(CellBox::new(bounds((20, 30), (0, 9), (3, 15)))?));
-        assert!(rt; !area.meets(CellBox::new(bounds((0, 9), (0, 9), (0, 15)))?));
-        assert!(rt; !area.meets(CellBox::new(bounds((0, 30), (6, 9), (0, 15)))?));
+        assert!(rt; area.meets(CellBox::new(Bounds::from([19, 30, 0, 9, 3, 15]))?));
+        assert!(rt; !area.meets(CellBox::new(Bounds::from([20, 30, 0, 9, 3, 15]))?));
+        assert!(rt; !area.meets(CellBox::new(Bounds::from([0, 9, 0, 9, 0, 15]))?));
+        assert!(rt; !area.meets(CellBox::new(Bounds::from([0, 30, 6, 9, 0, 15]))?));
         Ok(())
     }
 
@@ -171,14 +149,15 @@ mod tests {
     // all. The first piece is wide; the 31 slices after it have few services and bands.
     fn one_wide_and_slices(heap: Global) -> Result<Vec<Bounds>, AllocError> {
         let mut regions = Vec::new(heap);
-        regions.push(bounds((11, 71), (0, 99), (0, 15)))?;
-        regions.push(bounds((11, 71), (200, 719), (0, 15)))?;
-        regions.push(bounds((11, 71), (100, 199), (0, 3)))?;
-        regions.push(bounds((11, 71), (100, 199), (8, 15)))?;
-        for k in 0..30u8 {
-            let birth = 2 * u16::from(k) + 12;
-            regions.push(slice(birth, birth))?;
-        }
+        regions.push(Bounds::from([11, 71, 0, 99, 0, 15]))?;
+        regions.push(Bounds::from([11, 71, 200, 719, 0, 15]))?;
+        regions.push(Bounds::from([11, 71, 100, 199, 0, 3]))?;
+        regions.push(Bounds::from([11, 71, 100, 199, 8, 15]))?;
+        regions.extend(
+            (0..30u8)
+                .map(|k| 2 * u16::from(k) + 12)
+                .map(|birth| slice(birth, birth)),
+        )?;
         Ok(regions)
     }
 
@@ -189,13 +168,13 @@ mod tests {
         let before = question.split(regions.as_slice())?;
         assert_eq!(rt; before.len(), 32);
         assert_eq!(rt; piece(&before, 0)?, slice(0, 10));
-        assert_eq!(rt; piece(&before, 31)?, bounds((71, 71), (100, 199), (4, 7)));
+        assert_eq!(rt; piece(&before, 31)?, Bounds::from([71, 71, 100, 199, 4, 7]));
         // five for one, and the slices 11, 13, 15 and 17 vanish
-        regions.push(bounds((5, 18), (50, 300), (2, 10)))?;
+        regions.push(Bounds::from([5, 18, 50, 300, 2, 10]))?;
         let after = question.split(regions.as_slice())?;
         assert_eq!(rt; after.len(), 32);
         assert_eq!(rt; piece(&after, 0)?, slice(0, 4));
-        assert_eq!(rt; piece(&after, 5)?, bounds((19, 19), (100, 199), (4, 7)));
+        assert_eq!(rt; piece(&after, 5)?, Bounds::from([19, 19, 100, 199, 4, 7]));
         Ok(())
     }
 
@@ -203,7 +182,7 @@ mod tests {
     fn a_slice_less_vanishes_and_the_split_breaks(rt: HostRuntime) -> Result<(), Fail> {
         let question = CellBox::new(slice(0, 71))?;
         let mut regions = one_wide_and_slices(rt.alloc())?;
-        regions.push(bounds((5, 16), (50, 300), (2, 10)))?;
+        regions.push(Bounds::from([5, 16, 50, 300, 2, 10]))?;
         assert!(rt; question.split(regions.as_slice()).is_err());
         Ok(())
     }

@@ -1,5 +1,5 @@
 -- The three attributes, and the six plain numbers of a box: a closed range in each.
-use Rattle.std.specs.Prelude.{ℕ, ◌+◌, ◌-◌, ◌*◌, ◌<◌, ◌≤◌, min, max, Bool, if◌then◌else◌, ◌&&◌, Some, None, Option, nat_le, nat_lt}
+use Rattle.std.specs.Prelude.{ℕ, ◌+◌, ◌-◌, ◌*◌, ◌<◌, ◌≤◌, min, max, Bool, if◌then◌else◌, ◌&&◌, List, [], ◌∷◌, Some, None, Option, nat_le, nat_lt}
 use Rattle.domain.specs.declared.attributes.Axis.{Axis}
 use Rattle.domain.specs.declared.attributes.Axis.TheVariants.{Birth, Service, Band}
 use Rattle.domain.specs.declared.attributes.Bounds.{Bounds}
@@ -24,6 +24,10 @@ abbrev pub with_span : Axis → Span → Bounds → Bounds
 with_span Birth s b = record { birth = s; service = b.service; band = b.band }
 with_span Service s b = record { birth = b.birth; service = s; band = b.band }
 with_span Band s b = record { birth = b.birth; service = b.service; band = s }
+
+-- the six numbers, in the order of the attributes
+abbrev pub six_of : Bounds → List ℕ
+six_of b = b.birth.low ∷ b.birth.high ∷ b.service.low ∷ b.service.high ∷ b.band.low ∷ b.band.high ∷ []
 
 -- the whole span of an attribute, and the whole domain
 abbrev pub whole_span : Axis → Span

@@ -1,5 +1,5 @@
 ghost use Rattle.std.specs.Prelude.{◌↔◌, ◌≡◌, IsTrue, OnOk, Some};
-ghost use Rattle.domain.specs.Attributes.{Lawful, all_in_order, all_in_span, in_order, in_span, limit_of, meet, refusal_of, shares, span_of, with_span};
+ghost use Rattle.domain.specs.Attributes.{Lawful, all_in_order, all_in_span, in_order, in_span, limit_of, meet, refusal_of, shares, six_of, span_of, with_span};
 ghost use Rattle.domain.specs.Cells.{ShareCell, holds, within};
 ghost use Rattle.domain.specs.Text.{numbers_text};
 ghost use Rattle.std.specs.Result.{result_err};
@@ -35,6 +35,7 @@ pub struct Bounds {
 }
 
 /// One choice of birth rank, service and band.
+// not one type with `Bounds` over what it has of an attribute: they share no method, and two names say more than one
 #[derive(Clone, Copy, PartialEq, Eq, Debug)]
 pub struct Cell {
     pub birth: u16,
@@ -60,7 +61,7 @@ impl Span {
     fn contains(self, value: u16) -> bool
         ensures value { result ≡ within self value }
     {
-        self.low <= value && value <= self.high
+        (self.low..=self.high).contains(&value)
     }
 
     /// Do the two ranges have a value in common?
@@ -91,6 +92,20 @@ impl fmt::Display for Span {
 
     fn fmt<W: fmt::Write>(&self, f: &mut fmt::Formatter<W>) -> fmt::Result {
         write!(f, "{}..{}", self.low, self.high)
+    }
+}
+
+/// Six plain numbers in the order of the attributes, each lower end before its upper end.
+impl From<[u16; 6]> for Bounds {
+    ghost from_gives = { λ six b. six_of b ≡ six };
+
+    fn from(six: [u16; 6]) -> Bounds {
+        let [a, b, c, d, e, f] = six;
+        Bounds {
+            birth: Span { low: a, high: b },
+            service: Span { low: c, high: d },
+            band: Span { low: e, high: f },
+        }
     }
 }
 

@@ -13,11 +13,12 @@ pub struct YearMonth {
 
 impl YearMonth {
     /// The birth rank of the month: 0 for January 1900, 1,535 for December 2027.
+    // a look-up that fails in one way, and no `TryFrom`
     pub fn rank(self) -> Option<u16>
         ensures value { result ≡ rank_of self }
         ensures back { IfSome result (λ n. month_of n ≡ Some self) }
     {
-        if 1900 <= self.year && self.year <= 2027 && 1 <= self.month && self.month <= 12 {
+        if (1900..=2027).contains(&self.year) && (1..=12).contains(&self.month) {
             Some(12 * (self.year - 1900) + u16::from(self.month) - 1)
         } else {
             None
@@ -25,7 +26,7 @@ impl YearMonth {
     }
 
     /// The month of a birth rank.
-    // no `TryFrom<u16>`: its error type would say no more than `None`
+    // a look-up that fails in one way, as `char::from_u32` is, and no `TryFrom`
     pub fn of_rank(rank: u16) -> Option<YearMonth>
         ensures value { result ≡ month_of rank }
         ensures back { IfSome result (λ m. rank_of m ≡ Some rank) }

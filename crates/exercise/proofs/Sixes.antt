@@ -4,7 +4,8 @@ use Rattle.std.proofs.lemmas.List.{nil_from_length}
 use Rattle.std.proofs.lemmas.List.Folds.{flat_map-map}
 use Rattle.std.specs.Simd.{first_chunks}
 use Rattle.domain.specs.declared.attributes.Bounds.{Bounds}
-use Rattle.exercise.specs.Words.{NoBoxes, numbers_of, six_of}
+use Rattle.domain.specs.Attributes.{six_of}
+use Rattle.exercise.specs.Words.{NoBoxes, numbers_of}
 
 numbers_length : (bs : List Bounds) → length (numbers_of bs) ≡ 6 * length bs
 numbers_length [] = refl

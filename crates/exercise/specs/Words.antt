@@ -1,11 +1,8 @@
 -- Boxes written as numbers.
-use Rattle.std.specs.Prelude.{ℕ, List, [], ◌∷◌, ◌≢◌}
+use Rattle.std.specs.Prelude.{ℕ, List, ◌≢◌}
 use Rattle.std.specs.List.{flat_map}
 use Rattle.domain.specs.declared.attributes.Bounds.{Bounds}
-
--- the six numbers of a box, in the order of the attributes
-abbrev pub six_of : Bounds → List ℕ
-six_of b = b.birth.low ∷ b.birth.high ∷ b.service.low ∷ b.service.high ∷ b.band.low ∷ b.band.high ∷ []
+use Rattle.domain.specs.Attributes.{six_of}
 
 -- the numbers of boxes, one box after another
 abbrev pub numbers_of : List Bounds → List ℕ

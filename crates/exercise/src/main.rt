@@ -6,13 +6,13 @@
 #![tactic(auto)]
 
 use crate::statement::{Statement, state};
-use crate::words::{bounds_of, regions_of};
+use crate::words::regions_of;
 use anyhow::anyhow;
 use boxes::{CellBox, Pieces};
 use domain::{Bounds, Refusal};
-use std::error::Error;
+use std::env;
 use std::process::ExitCode;
-use std::{env, fmt};
+use thiserror::Error;
 use worked::worked_examples;
 
 mod statement;
@@ -41,7 +41,7 @@ fn run(rt: &HostRuntime) -> anyhow::Result<()> {
     let Some(regions) = regions_of(rt.alloc(), rest)? else {
         return Err(anyhow!("a region has six numbers"));
     };
-    work(rt, bounds_of(question), regions.as_slice())
+    work(rt, Bounds::from(*question), regions.as_slice())
 }
 
 /// The numbers on the command line.
@@ -85,14 +85,6 @@ fn print_pieces(rt: &HostRuntime, pieces: &Pieces) -> anyhow::Result<()> {
 }
 
 /// A refusal as the program tells it: by its number, before its sentence.
-#[derive(Clone, Copy, Debug)]
+#[derive(Clone, Copy, Debug, Error)]
+#[error("refused {}: {}", .0.number(), .0)]
 struct Refused(Refusal);
-
-/// The line that is told. By hand, since `thiserror` takes no call such as `number()` among a message's arguments.
-impl fmt::Display for Refused {
-    fn fmt<W: fmt::Write>(&self, f: &mut fmt::Formatter<W>) -> fmt::Result {
-        write!(f, "refused {}: {}", self.0.number(), self.0)
-    }
-}
-
-impl Error for Refused {}

@@ -11,9 +11,6 @@ module _ {X : Type 0} where
   has_cases x y xs (zero, h, at) = inl at
   has_cases x y xs (suc k, h, at) = inr (k, le_of_suc-le-suc h, at)
 
-  pub has_none : (y : X) → Contains [] y → ⊥
-  has_none y (k, h, at) = not-suc-le-zero h
-
   -- some item stands in a list that is not empty
   pub has_some : (xs : List X) → 0 < length xs → (x : X) × Contains xs x
   has_some [] h = absurd (not-suc-le-zero h)

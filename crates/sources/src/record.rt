@@ -30,6 +30,7 @@ impl Record {
     };
 
     /// The cell of the record.
+    // a part of it, and no `From`
     pub fn cell(self) -> Cell
         ensures value { result ≡ cell_of self }
     {

@@ -15,8 +15,9 @@ use domain::Refusal;
 ///
 /// Whoever builds on sources, as a cache does, is proved from this page alone and holds for every source. To write one,
 /// give the four ghost members and the two calls, and prove the clauses. They are promised in every state of the type:
-/// what has to be true of a state belongs into the invariant of the type. A source over another one says there what ties
-/// the two, by the ghost members of its parameter, as in `struct Over<S: Source> { below: S, ghost ok: { .. S.relation below .. } }`.
+/// what has to be true of a state belongs in a ghost field of the type. (The invariant of an `impl Model` would not do,
+/// since `lawful` is not given it.) A source over another one says there what ties the two, by the ghost members of its
+/// parameter, as in `struct Over<S: Source> { below: S, ghost ok: { .. S.relation below .. } }`.
 pub trait Source {
     /// The records that the source has. No call changes them.
     ghost relation: { Self → List Member };
@@ -36,7 +37,8 @@ pub trait Source {
     /// answer is k, the first k places hold these records, each once, and the others are untouched. If it has fewer,
     /// the question is refused with `BufferTooShort`, and every place is blank. Either way the meter rises by the cells
     /// of the area, and stops at its end.
-    // a lent buffer and a count, and no `Vec`: the library has no heap
+    // a lent buffer and a count, and no `Vec`: the library has no heap; no struct of area and buffer, which each call
+    // would make and each source take apart
     fn query(&mut self, area: CellBox, out: &mut [Record]) -> Result<usize, Refusal>
         ensures answers { Answers (relation self.old) area.bounds out.old result out.new }
         ensures charge { meter self.new ≡ raised_by (meter self.old) (cells_of area.bounds) }

@@ -5,7 +5,7 @@
 #[cfg(test)]
 mod tests {
     use boxes::CellBox;
-    use domain::{Bounds, Refusal, Span};
+    use domain::{Bounds, Refusal};
     use sources::{Record, Source, is_collection};
     use statements::Answer;
     use std::alloc::{AllocError, Global};
@@ -13,22 +13,9 @@ mod tests {
     use tables::{Table, draw};
     use values::{Nearness, PlainRegion, Recency, Region, ValueFunction};
 
-    // `boxes_tests` has the like: a crate for both would be longer than the two.
-    fn area(birth: (u16, u16), service: (u16, u16), band: (u16, u16)) -> Result<CellBox, Refusal> {
-        CellBox::new(Bounds {
-            birth: Span {
-                low: birth.0,
-                high: birth.1,
-            },
-            service: Span {
-                low: service.0,
-                high: service.1,
-            },
-            band: Span {
-                low: band.0,
-                high: band.1,
-            },
-        })
+    // The box of six numbers.
+    fn area(six: [u16; 6]) -> Result<CellBox, Refusal> {
+        CellBox::new(Bounds::from(six))
     }
 
     fn member(number: u32, birth: u16, service: u16, band: u16) -> Record {
@@ -65,7 +52,7 @@ mod tests {
         assert_eq!(rt; table.meter(), 0);
         let mut out = [old(); 3];
         assert_eq!(rt;
-            table.query(area((780, 959), (0, 240), (5, 8))?, &mut out),
+            table.query(area([780, 959, 0, 240, 5, 8])?, &mut out),
             Ok(2)
         );
         assert_eq!(rt; out[0], records[1]);
@@ -77,7 +64,7 @@ mod tests {
 
     #[test]
     fn each_end_of_each_range_belongs_to_it(rt: HostRuntime) -> Result<(), Fail> {
-        let question = area((10, 20), (30, 40), (3, 5))?;
+        let question = area([10, 20, 30, 40, 3, 5])?;
         assert!(rt; member(1, 10, 30, 3).lies_in(question));
         assert!(rt; member(1, 20, 40, 5).lies_in(question));
         assert!(rt; !member(1, 9, 30, 3).lies_in(question));
@@ -94,11 +81,11 @@ mod tests {
         let records = [member(1, 734, 130, 5)];
         let mut none = [old(); 0];
         assert_eq!(rt;
-            draw(&records, area((0, 733), (0, 719), (0, 15))?, &mut none).answer,
+            draw(&records, area([0, 733, 0, 719, 0, 15])?, &mut none).answer,
             Ok(0)
         );
         assert_eq!(rt;
-            draw(&records, area((0, 734), (0, 719), (0, 15))?, &mut none).answer,
+            draw(&records, area([0, 734, 0, 719, 0, 15])?, &mut none).answer,
             Err(Refusal::BufferTooShort)
         );
         Ok(())
@@ -113,7 +100,7 @@ mod tests {
         ];
         let mut table = Table::new(&records);
         let mut out = [old(); 2];
-        let question = area((734, 734), (130, 132), (5, 5))?;
+        let question = area([734, 734, 130, 132, 5, 5])?;
         assert_eq!(rt;
             table.query(question, &mut out),
             Err(Refusal::BufferTooShort)
@@ -123,7 +110,7 @@ mod tests {
         assert_eq!(rt; table.meter(), 3);
         // and the next question is answered and charged as any other
         assert_eq!(rt;
-            table.query(area((734, 734), (131, 132), (5, 5))?, &mut out),
+            table.query(area([734, 734, 131, 132, 5, 5])?, &mut out),
             Ok(2)
         );
         assert_eq!(rt; out[0], records[1]);
@@ -172,9 +159,9 @@ mod tests {
 
     #[test]
     fn recency_and_nearness(rt: HostRuntime) -> Result<(), Fail> {
-        let question = area((10, 20), (30, 40), (3, 5))?;
-        let first = area((0, 0), (0, 0), (0, 0))?;
-        let last = area((1535, 1535), (719, 719), (15, 15))?;
+        let question = area([10, 20, 30, 40, 3, 5])?;
+        let first = area([0, 0, 0, 0, 0, 0])?;
+        let last = area([1535, 1535, 719, 719, 15, 15])?;
         assert_eq!(rt; Recency.value(Region::new(first, 41, 0), question), 41);
         assert_eq!(rt;
             Nearness.value(Region::new(question, 41, 0), question),
@@ -184,24 +171,15 @@ mod tests {
         assert_eq!(rt; Nearness.value(Region::new(last, 1, 2), first), 0);
         // as far before the question as after it, and with another box of the same sums
         assert_eq!(rt;
-            Nearness.value(
-                Region::new(area((5, 15), (30, 40), (3, 5))?, 1, 2),
-                question,
-            ),
+            Nearness.value(Region::new(area([5, 15, 30, 40, 3, 5])?, 1, 2), question,),
             4528
         );
         assert_eq!(rt;
-            Nearness.value(
-                Region::new(area((15, 25), (30, 40), (3, 5))?, 1, 2),
-                question,
-            ),
+            Nearness.value(Region::new(area([15, 25, 30, 40, 3, 5])?, 1, 2), question,),
             4528
         );
         assert_eq!(rt;
-            Nearness.value(
-                Region::new(area((15, 15), (0, 70), (4, 4))?, 1, 2),
-                question,
-            ),
+            Nearness.value(Region::new(area([15, 15, 0, 70, 4, 4])?, 1, 2), question,),
             4538
         );
         Ok(())
@@ -209,7 +187,7 @@ mod tests {
 
     #[test]
     fn a_region_has_its_plain_numbers(rt: HostRuntime) -> Result<(), Fail> {
-        let question = area((10, 20), (30, 40), (3, 5))?;
+        let question = area([10, 20, 30, 40, 3, 5])?;
         let region = Region::new(question, 41, 7);
         assert_eq!(rt; region.area().bounds(), question.bounds());
         assert_eq!(rt; region.stamp(), 41);

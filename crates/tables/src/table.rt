@@ -7,6 +7,7 @@ pub mod methods;
 
 /// A source that has the records of a lent list, if they make a collection, and otherwise none. It answers in the order
 /// of their numbers.
+// a ghost field, and no `impl Model`: `lawful` of its `impl Source` rests on the field
 #[derive(Drop)]
 pub struct Table<'a> {
     records: &'a [Record],

@@ -5,7 +5,8 @@ use boxes::CellBox;
 use domain::{Bounds, HasBounds};
 
 /// The plain numbers of a region, as lists and tables hold them.
-// not one type with `Region` over the type of the box: tables hold plain numbers, any there are, and a region is closed
+// not one type with `Region` over the type of the box: tables hold plain numbers, any there are, in open fields; those of
+// a region are closed
 #[derive(Clone, Copy, PartialEq, Eq, Debug)]
 pub struct PlainRegion {
     pub bounds: Bounds,
@@ -25,7 +26,7 @@ impl HasBounds for PlainRegion {
 
 /// A region: a box that is held, its stamp and its number of records. It is made when it is wanted; what is kept are its
 /// plain numbers.
-// no `impl Model`: the model of a `Copy` type has an inverse, and not every six numbers make a box
+// no `impl Model`: the model of a `Copy` type has an inverse, and a box is not made back from any six numbers
 #[derive(Clone, Copy, PartialEq, Eq, Debug)]
 pub struct Region {
     area: CellBox,

@@ -8,7 +8,7 @@ ghost use Rattle.worked.specs.Examples.{WorkedExamples, last_question, last_regi
 use domain::{Bounds, Span};
 
 /// A question, and the region that is held when it is asked.
-#[derive(Clone, Copy)]
+#[derive(Clone, Copy, PartialEq, Eq, Debug)]
 pub struct WorkedSplit {
     pub question: Bounds,
     pub region: Bounds,

@@ -141,9 +141,7 @@ impl CellBox {
     {
         // there are six pieces at most, so there is room
         let mut pieces = Pieces::new();
-        let Ok(()) = self.cut_into(by, &mut pieces) else {
-            unreachable!();
-        };
+        self.cut_into(by, &mut pieces).unwrap();
         pieces
     }
 }

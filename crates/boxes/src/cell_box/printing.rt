@@ -30,8 +30,5 @@ fn month(rank: u16) -> YearMonth
     requires { rank < 1536 }
     ensures value { month_of rank ≡ Some result }
 {
-    let Some(month) = YearMonth::of_rank(rank) else {
-        unreachable!();
-    };
-    month
+    YearMonth::of_rank(rank).unwrap()
 }

@@ -39,6 +39,7 @@ impl<'a> Source for Table<'a> {
 
     ghost steps = { TableSteps };
 
+    // the form is the trait's
     fn query(&mut self, area: CellBox, out: &mut [Record]) -> Result<usize, Refusal> {
         self.meter.charge(area);
         select(self.records, area, out)

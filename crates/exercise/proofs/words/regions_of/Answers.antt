@@ -3,7 +3,7 @@ use Rattle.std.proofs.lemmas.Bool.{eqb-false, eqb-true}
 use Rattle.std.proofs.lemmas.Iterator.{YieldsList-from_map_by, YieldsList-from_slice}
 use Rattle.std.proofs.lemmas.Iterator.Consumers.{map_from_collect}
 use Rattle.std.proofs.lemmas.Result.{IfOk-at_ok}
-use Rattle.exercise.specs.Words.{six_of}
+use Rattle.domain.specs.Attributes.{six_of}
 use Rattle.exercise.proofs.Sixes.{left_over, numbers_of_sixes}
 use Rattle.exercise.proofs.words.regions_of.Goals as goal
 
