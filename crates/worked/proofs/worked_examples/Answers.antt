@@ -2,19 +2,15 @@ use Rattle.std.proofs.Common.{refl}
 use Rattle.worked.proofs.Facts.{apart_leaves, covered_leaves_none, single_cell}
 use Rattle.worked.proofs.worked_examples.Goals as goal
 
-pub returns : goal.returns
-returns c = record {
-  question = refl;
-  region = refl;
-  worked_examples = record {
-    domain = refl;
-    single = single_cell;
-    corner = refl;
-    apart = apart_leaves;
-    covered = covered_leaves_none;
-    middle = refl;
-    last = refl;
-    sum = refl;
-    january = refl;
-  };
+pub returns-clause-worked_examples : goal.returns-clause-worked_examples
+returns-clause-worked_examples c = record {
+  domain = refl;
+  single = single_cell;
+  corner = refl;
+  apart = apart_leaves;
+  covered = covered_leaves_none;
+  middle = refl;
+  last = refl;
+  sum = refl;
+  january = refl;
 }

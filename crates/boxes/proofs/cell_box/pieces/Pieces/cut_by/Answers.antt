@@ -1,10 +1,10 @@
-use Rattle.std.proofs.Common.{◌≡◌, ℕ, ◌+◌, ◌<◌, List, ◌++◌, length, drop, get_or, sym, ap, ◌∙◌, subst}
+use Rattle.std.proofs.Common.{◌≡◌, ℕ, ◌+◌, ◌<◌, List, ◌++◌, length, drop, get_or, sym, ap, ◌∙◌}
 use Rattle.std.proofs.lemmas.List.{at_drop_more, at_drop_all}
 use Rattle.domain.specs.declared.attributes.Bounds.{Bounds}
 use Rattle.boxes.specs.declared.cell_box.CellBox.{CellBox}
 use Rattle.boxes.specs.Cuts.{cut_of, cut_order}
 use Rattle.boxes.specs.Pieces.{bounds_of_each, pieces_of}
-use Rattle.boxes.specs.Splits.{Appended, cut_all_in}
+use Rattle.boxes.specs.Splits.{cut_all_in}
 use Rattle.boxes.proofs.Appending.{leads_more, leads_stop, leads_end, appended_broken, appended_unbroken, given_err, pieces_fit}
 use Rattle.boxes.proofs.cell_box.pieces.Pieces.cut_by.Goals as goal
 
@@ -14,12 +14,6 @@ next : (bs : List CellBox) (i : ℕ) (b : CellBox) (r : Bounds) → i < length b
 next bs i b r here is =
     at_drop_more (λ ps. cut_all_in cut_order (bounds_of_each ps) r) bs i b here
     ∙ ap (λ p. cut_of p.bounds r ++ cut_all_in cut_order (bounds_of_each (drop (i + 1) bs)) r) (sym is)
-
-pub loop-piece-init : goal.loop-piece-init
-loop-piece-init c =
-    λ end ok a.
-    subst (λ xs. Appended xs (cut_all_in cut_order (pieces_of c.args.self.now) c.args.region) end ok) c.new-pieces.ensures.value
-    (subst (λ ps. Appended (pieces_of c.new-pieces.result) (cut_all_in cut_order ps c.args.region) end ok) c.as_slice-piece-items.ensures.value a)
 
 pub returns-in_err-cut_into : goal.returns-in_err-cut_into
 returns-in_err-cut_into c = record {
