@@ -50,6 +50,7 @@ impl CellBox {
     pub fn bounds(self) -> Bounds
         ensures value { result ≡ self.bounds }
     {
+        // by a pattern, since the must-fail edit of this line needs a text that stands once
         let CellBox { bounds } = self;
         bounds
     }

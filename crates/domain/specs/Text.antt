@@ -3,7 +3,7 @@ use Rattle.std.specs.Prelude.{ℕ, ◌/◌, ◌%◌, List, ◌++◌, codes, deci
 use Rattle.domain.specs.declared.attributes.Span.{Span}
 use Rattle.domain.specs.declared.calendar.YearMonth.{YearMonth}
 
--- a year, a hyphen and a month of two digits
+-- a year, a hyphen and a month of two digits at least
 abbrev pub year_month_text : YearMonth → List ℕ
 year_month_text m = decimal m.year ++ (codes "-" ++ (decimal (m.month / 10) ++ decimal (m.month % 10)))
 

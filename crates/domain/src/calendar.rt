@@ -42,7 +42,7 @@ impl YearMonth {
     }
 }
 
-/// The month as the course writes it: a year, a hyphen and a month of two digits.
+/// The month as the course writes it: a year, a hyphen and a month of two digits at least.
 impl fmt::Display for YearMonth {
     ghost output = { λ m. Some (year_month_text m) };
 

@@ -41,6 +41,7 @@ impl Meter {
     pub fn reading(&self) -> u64
         ensures value { result ≡ self.now }
     {
+        // by a pattern, since the must-fail edit of this line needs a text that stands once
         let Meter { reading } = self;
         *reading
     }

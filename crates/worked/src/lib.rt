@@ -20,6 +20,7 @@ pub fn worked_examples() -> WorkedSplit
     ensures region { result.region ≡ last_region }
     ensures worked_examples { WorkedExamples }
 {
+    // field by field, and no `From` six numbers: the clauses say the box itself, not its list of numbers
     WorkedSplit {
         question: Bounds {
             birth: Span {
