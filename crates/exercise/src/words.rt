@@ -15,3 +15,30 @@ pub fn regions_of(heap: Global, numbers: &[u16]) -> Result<Option<Vec<Bounds>>, 
     }
     Ok(Some(sixes.iter().map(|six| Bounds::from(*six)).collect(heap)?))
 }
+
+#[cfg(test)]
+mod tests {
+    use super::*;
+    use std::test::Fail;
+
+    // The contract leaves it open that memory may be wanting, so this shows that regions are read.
+    #[test]
+    fn sixes_make_regions(rt: HostRuntime) -> Result<(), Fail> {
+        let numbers = [720, 839, 120, 240, 5, 8, 0, 1, 2, 3, 4, 5];
+        let regions = regions_of(rt.alloc(), &numbers)?.ok_or_else(|| Fail::new("none is read"))?;
+        assert_eq!(rt; regions.len(), 2);
+        assert_eq!(rt;
+            regions.as_slice()[0],
+            Bounds::from([720, 839, 120, 240, 5, 8])
+        );
+        assert_eq!(rt; regions.as_slice()[1], Bounds::from([0, 1, 2, 3, 4, 5]));
+        assert!(rt; regions_of(rt.alloc(), &numbers[..11])?.is_none());
+        assert_eq!(rt;
+            regions_of(rt.alloc(), &[])?
+                .ok_or_else(|| Fail::new("none is read"))?
+                .len(),
+            0
+        );
+        Ok(())
+    }
+}
