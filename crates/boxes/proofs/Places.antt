@@ -1,19 +1,37 @@
--- Lists that are known place by place, and the numbers of boxes.
-use Rattle.std.proofs.Common.{◌≡◌, ℕ, ◌+◌, ◌*◌, ◌<◌, ◌≤◌, List, [], ◌∷◌, length, map, get_or, sum_by, sym, refl, ap, ◌∙◌, arith}
-use Rattle.std.proofs.lemmas.List.{ext_get_or, get_or-map, length-map, nil_from_length}
+-- Lists that are written place by place, and the numbers of boxes.
+use Rattle.std.proofs.Common.{◌≡◌, ℕ, ◌+◌, ◌*◌, ◌<◌, ◌≤◌, List, [], ◌∷◌, ◌++◌, length, get_or, take, drop, set, sum_by, Some, sym, refl, ap, ◌∙◌, append_assoc, arith, length-take}
+use Rattle.std.proofs.lemmas.List.{drop_more, length-map, map_push, set_at, take_all, take_more}
+use Rattle.std.proofs.lemmas.Bool.{cond-true, le-leb}
 use Rattle.std.proofs.lemmas.List.Sums.{sum_by-cons}
 use Rattle.boxes.specs.declared.cell_box.CellBox.{CellBox}
+use Rattle.domain.specs.declared.attributes.Bounds.{Bounds}
 use Rattle.domain.specs.Cells.{total_cells}
 use Rattle.boxes.specs.Pieces.{box_cells, bounds_of_each}
+use Rattle.boxes.specs.Plans.{plan_list}
 use Rattle.boxes.proofs.Lawfulness.{cells_fit}
 
--- a list that has f of each element at its place
-pub mapped : {X Y : Type 0} (f : X → Y) (xs : List X) (ys : List Y) → length ys ≡ length xs
-    → ((i : ℕ) (d : X) (e : Y) → i < length xs → get_or ys i e ≡ f (get_or xs i d)) → ys ≡ map f xs
-mapped f [] ys l h = nil_from_length ys l
-mapped f (x ∷ xs) ys l h =
-    ext_get_or (f x) ys (map f (x ∷ xs)) (l ∙ sym (length-map (x ∷ xs) f)) (λ i k.
-    let here : i < length (x ∷ xs) = omega (arith, l) in h i x (f x) here ∙ sym (get_or-map f (x ∷ xs) i x (f x) here))
+-- the first places of a list hold the numbers of boxes, and the others what they held: one place more
+pub written_more : (pieces : List CellBox) (before list : List Bounds) (i : ℕ) (b : CellBox) → i < length pieces → b ≡ get_or pieces i b
+    → (length pieces ≤ length before) × (list ≡ bounds_of_each (take i pieces) ++ drop i before)
+    → set list i b.bounds ≡ bounds_of_each (take (i + 1) pieces) ++ drop (i + 1) before
+written_more pieces before list i b here is so_far =
+    let front : length (bounds_of_each (take i pieces)) ≡ i = simp (length-map, length-take) (omega arith) in
+    let kept = drop (i + 1) before in
+    ap (λ ys. set ys i b.bounds) (so_far.1 ∙ ap (λ ys. bounds_of_each (take i pieces) ++ ys) (drop_more before i b.bounds (omega (arith, so_far.0))))
+    ∙ (set_at (bounds_of_each (take i pieces)) _ kept b.bounds i front
+    ∙ (ap (λ (x : CellBox). bounds_of_each (take i pieces) ++ x.bounds ∷ kept) is
+    ∙ sym (ap (λ ys. bounds_of_each ys ++ kept) (take_more pieces i b here)
+    ∙ (ap (λ ys. ys ++ kept) (map_push (λ (x : CellBox). x.bounds) (take i pieces) _) ∙ append_assoc (bounds_of_each (take i pieces)) ((get_or pieces i b).bounds ∷ []) kept))))
+
+-- and where all boxes are written, it is the plan
+pub plan_written : (pieces : List CellBox) (ps before list : List Bounds) (i : ℕ) → bounds_of_each pieces ≡ ps → length pieces ≤ i → i ≤ length pieces
+    → (length pieces ≤ length before) × (list ≡ bounds_of_each (take i pieces) ++ drop i before) → list ≡ plan_list (Some ps) before
+plan_written pieces ps before list i known past within so_far =
+    let long : length ps ≡ length pieces = ap length (sym known) ∙ length-map pieces (λ b. b.bounds) in
+    let at : i ≡ length ps = omega (arith, long) in
+    let room : length ps ≤ length before = omega (arith, long, so_far.0) in
+    let written = ap bounds_of_each (take_all i pieces past) ∙ known in
+    so_far.1 ∙ ((λ j. written j ++ drop (at j) before) ∙ sym (cond-true _ _ _ (le-leb _ _ room)))
 
 -- the cells of boxes, added up box by box
 pub cells_by_box : (bs : List CellBox) → sum_by box_cells bs ≡ total_cells (bounds_of_each bs)

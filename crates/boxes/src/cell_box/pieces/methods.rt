@@ -74,16 +74,19 @@ impl Pieces {
     /// Writes the pieces into the first places of a list and answers how many there are; refused, with nothing written,
     /// where the list has fewer places.
     // a lent list and a count, and no `Vec`: the library has no heap
+    #[tactic(auto, using(crate::proofs::Places::plan_written, crate::proofs::Places::written_more))]
     pub fn write_to(&self, list: &mut [Bounds]) -> Result<usize, Refusal>
         ensures value { result ≡ plan_answer (Some (pieces_of self.now)) (length list.old) }
         ensures after { list.new ≡ plan_list (Some (pieces_of self.now)) list.old }
     {
-        if list.len() < self.len {
+        let pieces = self.as_slice();
+        if list.len() < pieces.len() {
             return Err(Refusal::ListTooShort);
         }
-        let numbers = self.boxes.map(|piece| piece.bounds);
-        list[..self.len].copy_from_slice(&numbers[..self.len]);
-        Ok(self.len)
+        for (place, piece) in pieces.iter().enumerate() {
+            list[place] = piece.bounds;
+        }
+        Ok(pieces.len())
     }
 }
 
