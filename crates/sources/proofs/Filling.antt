@@ -1,15 +1,8 @@
 -- A buffer that is filled from the front with the records of a selection.
-use Rattle.std.proofs.Common.{Bor, Iter, Bool, ◌≡◌, ℕ, ◌+◌, ◌<◌, ◌≤◌, List, [], ◌∷◌, ◌++◌, length, drop, set, replicate, Ok, Err, sym, arith}
-use Rattle.std.proofs.lemmas.List.{append_assoc, drop_more, length_push, set_at}
+use Rattle.std.proofs.Common.{◌≡◌, ℕ, ◌+◌, ◌<◌, ◌≤◌, true, false, cond, List, [], ◌∷◌, ◌++◌, length, get_or, take, drop, set, replicate, Ok, Err, sym, ap, ◌∙◌, arith}
+use Rattle.std.proofs.lemmas.List.Elements.{filter-append, filter_more}
+use Rattle.std.proofs.lemmas.List.{append_assoc, append-nil, drop_more, length-append, length_push, set_at, take-append-drop}
 use Rattle.std.proofs.lemmas.Bool.Decides.{nat_tests}
-use Rattle.std.proofs.lemmas.Fn.{fronts}
-use Rattle.std.proofs.lemmas.Iterator.{YieldsList, YieldsList-from_slice}
-use Rattle.std.proofs.lemmas.Iterator.Consumers.{YieldsList-at, YieldsList-from_filter}
-use Rattle.std.specs.declared.iter.Filter.{Filter}
-use Rattle.std.specs.Fn.{CalledAt}
-use Rattle.std.specs.Iterator.Adapters.{filter_callee, filter_source, filter_steps}
-use Rattle.std.specs.Slice.Iter.{iter_rest}
-use denote.Param.Members.{Mut}
 use Rattle.domain.specs.declared.attributes.Bounds.{Bounds}
 use Rattle.domain.specs.declared.refusals.Refusal.TheVariants.{BufferTooShort}
 use Rattle.sources.specs.declared.record.Record.{Record}
@@ -42,9 +35,27 @@ filled_all f whole = (grind (arith, nat_tests), grind (arith, nat_tests))
 pub overfull : (found before : List Record) (n : ℕ) → n ≡ length before → length before < length found → (Err BufferTooShort ≡ answer_of found (length before)) × (replicate n blank ≡ buffer_of found before)
 overfull found before n long over = (grind (arith, nat_tests), grind (arith, nat_tests))
 
--- the chain that `select` goes over gives the records of the selection
-pub chosen_gives : {F : Type 0} {s : Filter (Iter Record) F} {from : Iter Record} {f : F} (g : Mut F (Bor (Bor Record) × Unit {0}) Bool) (b : Bounds) (rs : List Record)
-    → filter_source s ≡ from → filter_callee s ≡ f → iter_rest from ≡ rs → ((r : Bor Record) (t : Bool) (q : F) → CalledAt g f r t q → (q ≡ f) × (t ≡ inside b r.now))
-    → YieldsList (filter_steps fronts g) (λ r. r.now) s (selection b rs)
-unfolding selection
-chosen_gives g b rs source callee rest tests = YieldsList-from_filter g (inside b) (YieldsList-at source (YieldsList-from_slice rs rest)) callee tests
+-- the selection, one record further
+module _ (b : Bounds) (rs : List Record) (i : ℕ) (d : Record) (here : i < length rs) where
+  pub selection_yes : inside b (get_or rs i d) ≡ true → selection b (take (i + 1) rs) ≡ selection b (take i rs) ++ get_or rs i d ∷ []
+  unfolding selection
+  selection_yes e = filter_more (inside b) rs i d here ∙ ap (λ t. selection b (take i rs) ++ cond t (get_or rs i d ∷ []) []) e
+
+  pub selection_no : inside b (get_or rs i d) ≡ false → selection b (take (i + 1) rs) ≡ selection b (take i rs)
+  unfolding selection
+  selection_no e =
+      filter_more (inside b) rs i d here
+      ∙ (ap (λ t. selection b (take i rs) ++ cond t (get_or rs i d ∷ []) []) e ∙ append-nil (selection b (take i rs)))
+
+  -- it is longer than what was found before, if this one is to be found too
+  pub selection_longer : inside b (get_or rs i d) ≡ true → length (selection b (take i rs)) < length (selection b rs)
+  unfolding selection
+  selection_longer e =
+      let parts = ap (selection b) (sym (take-append-drop (i + 1) rs)) ∙ filter-append (inside b) (take (i + 1) rs) (drop (i + 1) rs) in
+      omega (
+        arith,
+        ap length parts,
+        length-append (selection b (take (i + 1) rs)) (selection b (drop (i + 1) rs)),
+        ap length (selection_yes e),
+        length_push (selection b (take i rs)) (get_or rs i d),
+      )

@@ -22,18 +22,17 @@ pub fn select(records: &[Record], area: CellBox, out: &mut [Record]) -> Result<u
     ensures after { out.new ≡ buffer_of (selection area.bounds records.now) out.old }
     ensures selection_laws { SelectionLaws }
 {
-    let mut chosen = records.iter().filter(|record| record.lies_in(area));
-    for (count, place) in out.iter_mut().enumerate() {
-        let Some(record) = chosen.next() else {
-            return Ok(count);
-        };
-        *place = *record;
-    }
-    match chosen.next() {
-        Some(_) => {
-            blank_all(out);
-            Err(Refusal::BufferTooShort)
+    // counted by hand: a filter, and its next for each place of the buffer, took up to twice the time
+    let mut count = 0;
+    for record in records {
+        if record.lies_in(area) {
+            if count == out.len() {
+                blank_all(out);
+                return Err(Refusal::BufferTooShort);
+            }
+            out[count] = *record;
+            count += 1;
         }
-        None => Ok(out.len()),
     }
+    Ok(count)
 }

@@ -1,6 +1,7 @@
-use Rattle.std.proofs.Common.{map}
+use Rattle.std.proofs.Common.{take}
 use Rattle.sources.proofs.Filling.{Filled}
+use Rattle.sources.specs.Selections.{selection}
 use Rattle.sources.proofs.selecting.select.Given as goal
 
-abbrev pub invariant-loop-count : goal.invariant-loop-count
-invariant-loop-count l = Filled (map (λ y. y.now) l.yielded) l.initial.out l.out l.count
+abbrev pub invariant-loop-record : goal.invariant-loop-record
+invariant-loop-record l = Filled (selection l.area.bounds (take l.record-index l.records)) l.initial.out l.out l.count
