@@ -19,4 +19,4 @@ pub record TableSteps (t : Table) (b : Bounds) (before : List Record) (r : Resul
   pub rises : Rising (selection b t.records.now)
   -- the table reads the same list, and has charged the cells of the box
   pub records : u.records ≡ t.records
-  pub charge : u.meter ≡ raised_by t.meter (cells_of b)
+  pub charge : u.meter.reading ≡ raised_by t.meter.reading (cells_of b)

@@ -12,7 +12,7 @@ impl<'a> Table<'a> {
     /// A table of the records, if they make a collection, and otherwise of none. It has charged nothing.
     pub fn new(records: &'a [Record]) -> Table<'a>
         ensures records { result.records.now ≡ collection_of records.now }
-        ensures meter { result.meter ≡ 0 }
+        ensures meter { result.meter.reading ≡ 0 }
     {
         let records = if is_collection(records) { records } else { &[] };
         Table {
@@ -33,7 +33,7 @@ impl<'a> Table<'a> {
 impl<'a> Source for Table<'a> {
     ghost relation = { λ t. t.records.now };
 
-    ghost meter = { λ t. t.meter };
+    ghost meter = { λ t. t.meter.reading };
 
     ghost lawful = { λ t. collection_lawful t.records.now t.collection };
 
