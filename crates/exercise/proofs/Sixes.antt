@@ -7,7 +7,7 @@ use Rattle.domain.specs.declared.attributes.Bounds.{Bounds}
 use Rattle.domain.specs.Attributes.{six_of}
 use Rattle.exercise.specs.Words.{NoBoxes, numbers_of}
 
-numbers_length : (bs : List Bounds) → length (numbers_of bs) ≡ 6 * length bs
+pub numbers_length : (bs : List Bounds) → length (numbers_of bs) ≡ 6 * length bs
 numbers_length [] = refl
 numbers_length (b ∷ bs) = omega (arith, numbers_length bs)
 
