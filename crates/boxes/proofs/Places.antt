@@ -10,18 +10,23 @@ use Rattle.boxes.specs.Pieces.{box_cells, bounds_of_each}
 use Rattle.boxes.specs.Plans.{plan_list}
 use Rattle.boxes.proofs.Lawfulness.{cells_fit}
 
--- the first places of a list hold the numbers of boxes, and the others what they held: one place more
+-- a list that is written from the front, and behind it holds what it held: one item more
+pub put_next : {X : Type 0} (found before : List X) {list : List X} (i : ℕ) (x : X) → i ≡ length found → list ≡ found ++ drop i before → i < length before
+    → set list i x ≡ (found ++ x ∷ []) ++ drop (i + 1) before
+put_next found before i x front so_far room =
+    ap (λ ys. set ys i x) (so_far ∙ ap (λ ys. found ++ ys) (drop_more before i x room))
+    ∙ (set_at found _ (drop (i + 1) before) x i (sym front) ∙ sym (append_assoc found (x ∷ []) (drop (i + 1) before)))
+
+-- where the numbers of boxes are written, one box after another
 pub written_more : (pieces : List CellBox) (before list : List Bounds) (i : ℕ) (b : CellBox) → i < length pieces → b ≡ get_or pieces i b
     → (length pieces ≤ length before) × (list ≡ bounds_of_each (take i pieces) ++ drop i before)
     → set list i b.bounds ≡ bounds_of_each (take (i + 1) pieces) ++ drop (i + 1) before
 written_more pieces before list i b here is so_far =
     let front : length (bounds_of_each (take i pieces)) ≡ i = simp (length-map, length-take) (omega arith) in
-    let kept = drop (i + 1) before in
-    ap (λ ys. set ys i b.bounds) (so_far.1 ∙ ap (λ ys. bounds_of_each (take i pieces) ++ ys) (drop_more before i b.bounds (omega (arith, so_far.0))))
-    ∙ (set_at (bounds_of_each (take i pieces)) _ kept b.bounds i front
-    ∙ (ap (λ (x : CellBox). bounds_of_each (take i pieces) ++ x.bounds ∷ kept) is
-    ∙ sym (ap (λ ys. bounds_of_each ys ++ kept) (take_more pieces i b here)
-    ∙ (ap (λ ys. ys ++ kept) (map_push (λ (x : CellBox). x.bounds) (take i pieces) _) ∙ append_assoc (bounds_of_each (take i pieces)) ((get_or pieces i b).bounds ∷ []) kept))))
+    let more = ap bounds_of_each (take_more pieces i b here) ∙ map_push (λ (x : CellBox). x.bounds) (take i pieces) (get_or pieces i b) in
+    put_next (bounds_of_each (take i pieces)) before i b.bounds (sym front) so_far.1 (omega (arith, so_far.0))
+    ∙ (λ j. (bounds_of_each (take i pieces) ++ (is j).bounds ∷ []) ++ drop (i + 1) before)
+    ∙ sym (ap (λ ys. ys ++ drop (i + 1) before) more)
 
 -- and where all boxes are written, it is the plan
 pub plan_written : (pieces : List CellBox) (ps before list : List Bounds) (i : ℕ) → bounds_of_each pieces ≡ ps → length pieces ≤ i → i ≤ length pieces

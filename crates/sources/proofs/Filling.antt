@@ -1,8 +1,9 @@
 -- A buffer that is filled from the front with the records of a selection.
 use Rattle.std.proofs.Common.{◌≡◌, ℕ, ◌+◌, ◌<◌, ◌≤◌, true, false, cond, List, [], ◌∷◌, ◌++◌, length, get_or, take, drop, set, replicate, Ok, Err, sym, ap, ◌∙◌, arith}
 use Rattle.std.proofs.lemmas.List.Elements.{filter-append, filter_more}
-use Rattle.std.proofs.lemmas.List.{append_assoc, append-nil, drop_more, length-append, length_push, set_at, take-append-drop}
+use Rattle.std.proofs.lemmas.List.{append-nil, length-append, length_push, take-append-drop}
 use Rattle.std.proofs.lemmas.Bool.Decides.{nat_tests}
+use Rattle.boxes.proofs.Places.{put_next}
 use Rattle.domain.specs.declared.attributes.Bounds.{Bounds}
 use Rattle.domain.specs.declared.refusals.Refusal.TheVariants.{BufferTooShort}
 use Rattle.sources.specs.declared.record.Record.{Record}
@@ -19,12 +20,14 @@ pub record Filled (found before out : List Record) (count : ℕ) : Type 0 where
 -- one record more
 pub filled_more : {found before out : List Record} {count : ℕ} (x : Record) → Filled found before out count → count < length before → Filled (found ++ x ∷ []) before (set out count x) (count + 1)
 filled_more {found} {before} {out} {count} x f room =
-    let at : length found < length before = omega (arith, f.counted) in
     let long = length_push found x in
+    let next : count + 1 ≡ length (found ++ x ∷ []) = omega (arith, f.counted, long) in
     record {
-      counted = omega (arith, f.counted, long);
-      fits = omega (arith, long);
-      places = rw (f.places, drop_more before (length found) blank at, set_at found _ _ x count (sym f.counted)) (simp (long, append_assoc));
+      counted = next;
+      fits = omega (arith, f.counted, long);
+      places =
+          put_next found before count x f.counted (f.places ∙ ap (λ n. found ++ drop n before) (sym f.counted)) room
+          ∙ ap (λ n. (found ++ x ∷ []) ++ drop n before) next;
     }
 
 -- the answer and the buffer, where all that is to be found is found
